@@ -1,0 +1,161 @@
+-- Document 01, 'Boundary sheet', the rows that the repeater decides by itself, and 'Shortcuts that look right', as tables. A row is a list of inputs from power-up, a
+-- port, and how that port is to stand after them: connected with a count or partitioned, and whether its link passes. proofs/Sheet.antt computes every row.
+--   activity      == a burst: mask, rate error flag, AUI's collision signal, duration, length of the collision; no other flag is set
+--   active m d x  == such a burst as an input, with neither flag
+--   mistimed m d  == one with rate error and no collision
+--   passing       == four link pulses: the links of TP0, TP1 and TP2 pass
+--   Row, found    == a row of a table; how its port stands
+--   sheet         == the boundary sheet: reconnecting, the collision's length, the number of collisions, ticks
+--   shortcuts     == a partitioned port is sent to, and jam is not clean
+--   links         == the link rules and the Sets at their boundaries
+--   Scene, scenes == a burst after some inputs, and the word, the ports sent to and the ports that collide: every case of 'Burst'
+--   story, told   == inputs of every kind, and the events that they are to TP0
+-- Assumes nothing.
+use Prim.Native.Nat.{ℕ}
+use mathlib.Core.Bool.{Bool, true, false}
+use mathlib.Core.List.{List, [], _∷_, _++_}
+use lib.ListN.{getD, replicate}
+use Rattle.repeater.specs.declared.burst.Burst.{Burst}
+use Rattle.repeater.specs.declared.burst.Word.{Word}
+use Rattle.repeater.specs.declared.burst.Word.the-variants.{Nil, Rep, Jam}
+use Rattle.repeater.specs.declared.burst.Effect.{Effect}
+use Rattle.repeater.specs.declared.commands.Setting.the-variants.{AlternateTp, DisableAui, DisableTp, EnableTp, LinkTestOff, LinkTestOn}
+use Rattle.repeater.specs.declared.repeater.Repeater.{Repeater}
+use Rattle.repeater.specs.Port.{noPort}
+use Rattle.repeater.specs.Reset.{powerUp}
+use Rattle.repeater.specs.Repeater.{burstOf}
+use Rattle.repeater.specs.History.{Event, collided, clean, neither, cleared, Standing, connected, partitioned}
+use Rattle.repeater.specs.Events.{standingAt, Input, burst, pulse, tick, setting, reset, afterInputs}
+
+abbrev pub activity : ℕ → Bool → Bool → ℕ → ℕ → Burst
+activity mask rate signal d x =
+    record { mask = mask; «rate_error» = rate; «collision_signal» = signal; «loopback_missing» = false; «sqe_test» = false; d = d; x = x }
+
+abbrev pub active : ℕ → ℕ → ℕ → Input
+active mask d x = burst (activity mask false false d x)
+
+abbrev pub mistimed : ℕ → ℕ → Input
+mistimed mask d = burst (activity mask true false d 0)
+
+abbrev pub passing : List Input
+passing = replicate 4 (pulse 0b111)
+
+-- TP0 and TP1 collide for x bit times
+abbrev pub collision : ℕ → Input
+collision x = active 0b011 2000 x
+
+-- and are partitioned by one long collision
+abbrev pub parted : List Input
+parted = passing ++ (collision 1025 ∷ [])
+
+pub record Seen : Type 0 where
+  pub standing : Standing
+  pub passes : Bool
+
+pub record Row : Type 0 where
+  pub inputs : List Input
+  pub place : ℕ
+  pub wanted : Seen
+
+abbrev pub row : List Input → ℕ → Standing → Bool → Row
+row inputs i standing passes = record { inputs = inputs; place = i; wanted = record { standing = standing; passes = passes } }
+
+abbrev pub found : Row → Seen
+found w =
+    let r : Repeater = afterInputs powerUp (w .inputs) in
+    record { standing = standingAt r (w .place); passes = getD (r .ports) (w .place) noPort .«link_pass» }
+
+abbrev pub sheet : List Row
+sheet =
+    row (parted ++ (active 0b001 512 0 ∷ [])) 0 partitioned true
+    ∷ row (parted ++ (active 0b001 513 0 ∷ [])) 0 (connected 0) true
+    ∷ row (parted ++ (active 0b100 512 0 ∷ [])) 0 partitioned true
+    ∷ row (parted ++ (active 0b100 513 0 ∷ [])) 0 (connected 0) true
+    ∷ row (passing ++ (collision 1024 ∷ [])) 0 (connected 1) true
+    ∷ row (passing ++ (collision 1025 ∷ [])) 0 partitioned true
+    ∷ row (passing ++ replicate 31 (collision 300)) 0 (connected 31) true
+    ∷ row (passing ++ replicate 32 (collision 300)) 0 partitioned true
+    ∷ row (passing ++ replicate 99 tick) 0 (connected 0) true
+    ∷ row (passing ++ replicate 100 tick) 0 (connected 0) false
+    ∷ []
+
+-- TP0 is partitioned and goes by the alternate algorithm: its own activity does not reconnect it, and data sent to it does. After 31 collisions TP2, or TP0 itself, is
+-- heard alone with a rate error: jam goes out, the count stays, and one more collision partitions
+abbrev pub shortcuts : List Row
+shortcuts =
+    row (setting AlternateTp ∷ parted ++ (active 0b001 2000 0 ∷ [])) 0 partitioned true
+    ∷ row (setting AlternateTp ∷ parted ++ (active 0b100 2000 0 ∷ [])) 0 (connected 0) true
+    ∷ row (passing ++ replicate 31 (collision 300) ++ (mistimed 0b100 2000 ∷ [])) 0 (connected 31) true
+    ∷ row (passing ++ replicate 31 (collision 300) ++ (mistimed 0b100 2000 ∷ collision 300 ∷ [])) 0 partitioned true
+    ∷ row (passing ++ replicate 31 (collision 300) ++ (mistimed 0b001 2000 ∷ [])) 0 (connected 31) true
+    ∷ row (passing ++ replicate 31 (collision 300) ++ (mistimed 0b001 2000 ∷ collision 300 ∷ [])) 0 partitioned true
+    ∷ []
+
+-- 'Link (TP)' and the Sets that reach it: three pulses or four, a pulse and activity zero idle, a hundred silent ticks clear the pulses; failure neither reconnects nor
+-- zeroes the count; without link test no tick fails, and it starts at pass; enabling fails the link, disabling connects, and neither does what is done already
+abbrev pub links : List Row
+links =
+    row (replicate 3 (pulse 1)) 0 (connected 0) false
+    ∷ row (replicate 4 (pulse 1)) 0 (connected 0) true
+    ∷ row (replicate 3 (pulse 1) ++ replicate 100 tick ++ (pulse 1 ∷ [])) 0 (connected 0) false
+    ∷ row (active 1 100 0 ∷ []) 0 (connected 0) true
+    ∷ row (passing ++ replicate 50 tick ++ (pulse 1 ∷ replicate 99 tick)) 0 (connected 0) true
+    ∷ row (passing ++ replicate 50 tick ++ (active 1 100 0 ∷ replicate 99 tick)) 0 (connected 0) true
+    ∷ row (parted ++ replicate 100 tick) 0 partitioned false
+    ∷ row (parted ++ replicate 100 tick ++ passing) 0 partitioned true
+    ∷ row (passing ++ replicate 31 (collision 300) ++ replicate 100 tick) 0 (connected 31) false
+    ∷ row (setting (LinkTestOff 0) ∷ replicate 100 tick) 0 (connected 0) true
+    ∷ row (setting (LinkTestOff 0) ∷ setting (LinkTestOn 0) ∷ replicate 99 tick) 0 (connected 0) true
+    ∷ row (setting (LinkTestOff 0) ∷ setting (LinkTestOn 0) ∷ replicate 100 tick) 0 (connected 0) false
+    ∷ row (passing ++ (setting (DisableTp 0) ∷ [])) 0 (connected 0) true
+    ∷ row (passing ++ (setting (DisableTp 0) ∷ setting (EnableTp 0) ∷ [])) 0 (connected 0) false
+    ∷ row (passing ++ (setting (EnableTp 0) ∷ [])) 0 (connected 0) true
+    ∷ row (parted ++ (setting (DisableTp 0) ∷ [])) 0 (connected 0) true
+    ∷ row (replicate 100 tick) 8 (connected 0) true
+    ∷ []
+
+pub record Scene : Type 0 where
+  pub inputs : List Input
+  pub last : Burst
+  pub wanted : Effect
+
+abbrev pub scene : List Input → Burst → Word → ℕ → ℕ → Bool → Scene
+scene inputs b word out colliding collision =
+    record { inputs = inputs; last = b; wanted = record { word = word; out = out; collided = colliding; collision = collision } }
+
+abbrev pub followedBy : Scene → Effect
+followedBy w = burstOf (afterInputs powerUp (w .inputs)) (w .last) .effect
+
+-- TP0, TP1 and AUI are partitioned by one long collision
+abbrev pub auiParted : List Input
+auiParted = passing ++ (active 0b100000011 2000 1025 ∷ [])
+
+-- T is TP0, TP1, TP2 and AUI, but for the last. In order: one heard; none, as the link of TP3 fails; two; TP3 active beside them, which is not in T; a rate error; AUI;
+-- AUI with its signal, and by the signal alone; TP0 and TP1 partitioned and active, which is no reason to jam, and TP0 beside TP2; AUI partitioned: its signal beside TP2
+-- leaves the word, and alone it collides; AUI disabled: nothing
+abbrev pub scenes : List Scene
+scenes =
+    scene passing (activity 0b000000001 false false 2000 0) Rep 0b100000110 0b000000000 false
+    ∷ scene passing (activity 0b000001000 false false 2000 0) Nil 0b000000000 0b000000000 false
+    ∷ scene passing (activity 0b000000011 false false 2000 300) Jam 0b100000111 0b000000011 true
+    ∷ scene passing (activity 0b000001011 false false 2000 300) Jam 0b100000111 0b000000011 true
+    ∷ scene passing (activity 0b000000001 true false 2000 0) Jam 0b100000110 0b000000000 false
+    ∷ scene passing (activity 0b100000000 false false 2000 0) Rep 0b000000111 0b000000000 false
+    ∷ scene passing (activity 0b100000000 false true 2000 300) Jam 0b000000111 0b100000000 true
+    ∷ scene passing (activity 0b000000000 false true 2000 300) Jam 0b000000111 0b100000000 true
+    ∷ scene parted (activity 0b000000011 false false 2000 300) Nil 0b000000000 0b000000000 false
+    ∷ scene parted (activity 0b000000101 false false 2000 300) Rep 0b100000011 0b000000001 false
+    ∷ scene auiParted (activity 0b000000100 false true 2000 300) Rep 0b100000011 0b100000000 false
+    ∷ scene auiParted (activity 0b000000000 false true 2000 300) Nil 0b000000000 0b100000000 false
+    ∷ scene (passing ++ (setting DisableAui ∷ [])) (activity 0b000000000 false true 2000 300) Nil 0b000000000 0b000000000 false
+    ∷ []
+
+-- one input of each kind that matters to a port's history, and what each is to TP0: after the link pulses it collides, is heard alone, is sent jam, is disabled, is
+-- disabled once more, is active while it is disabled, and is reset
+abbrev pub story : List Input
+story =
+    passing
+    ++ (collision 300 ∷ active 0b001 2000 0 ∷ mistimed 0b100 2000 ∷ setting (DisableTp 0) ∷ setting (DisableTp 0) ∷ collision 300 ∷ reset ∷ [])
+
+abbrev pub told : List Event
+told = replicate 4 neither ++ (collided 300 ∷ clean true ∷ neither ∷ cleared ∷ neither ∷ neither ∷ cleared ∷ [])
