@@ -1,0 +1,6 @@
+-- Sheet and Accepted are for the crates above; the others serve the proofs of this crate's functions.
+mod Numbers
+mod Strays
+mod Cases
+pub mod Sheet
+pub mod Accepted

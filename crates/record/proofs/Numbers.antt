@@ -1,0 +1,27 @@
+-- The code's sums of bytes are the definitions' numbers.
+-- Assumes nothing.
+use Prim.Native.Nat.{ℕ, _+_, _*_}
+use mathlib.Core.Path.{_≡_, refl}
+use mathlib.Core.List.{List}
+use mathlib.Core.Bool.{Bool, true, false}
+use native.Mathlib.Nat.{add-assoc, add-zero}
+use lib.Dec.{eqb}
+use borrow.Author.Tests.{eq-eqb, ne-eqb, eqb-true, eqb-false}
+use Rattle.record.specs.Record.{byteAt, bytesFrom, littleEndian}
+
+module _ (s : List ℕ) (i : ℕ) where
+  pub two : byteAt s i + 256 * byteAt s (i + 1) ≡ littleEndian (bytesFrom s i 1)
+  unfolding littleEndian bytesFrom
+  two = simp add-zero
+
+  pub four : byteAt s i + 256 * (byteAt s (i + 1) + 256 * (byteAt s (i + 2) + 256 * byteAt s (i + 3))) ≡ littleEndian (bytesFrom s i 3)
+  unfolding littleEndian bytesFrom
+  four = simp (add-assoc, add-zero)
+
+-- two numbers of which each is zero where the other is
+pub same-zero : (a b : ℕ) → (a ≡ 0 → b ≡ 0) → (b ≡ 0 → a ≡ 0) → eqb a 0 ≡ eqb b 0
+same-zero a b f g = go (eqb b 0) refl
+  where
+    go : (t : Bool) → eqb b 0 ≡ t → eqb a 0 ≡ t
+    go true e = eq-eqb a 0 (g (eqb-true b 0 e))
+    go false e = ne-eqb a 0 (λ h. eqb-false b 0 e (f h))
