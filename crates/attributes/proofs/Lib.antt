@@ -1,0 +1,3 @@
+-- Laws of the credits.
+pub mod CreditLaws
+pub mod OneClass

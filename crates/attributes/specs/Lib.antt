@@ -1,0 +1,2 @@
+-- What a burst is credited with.
+pub mod Credits
