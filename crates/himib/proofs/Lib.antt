@@ -1,0 +1,5 @@
+-- Laws of the definitions, and theorems that belong to no one function.
+pub mod HimibLaws
+pub mod Computing
+pub mod Sheet
+pub mod Refused
