@@ -1,0 +1,3 @@
+-- The host's record, lent.
+pub mod Lent
+pub mod Lists

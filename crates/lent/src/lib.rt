@@ -1,0 +1,111 @@
+// The host's record, lent: the caller keeps it, and each access alters it where it stands. The work is done by value; the functions here
+// take the record out whole and put it back whole. It starts as `host::Host::power_up()`, and that is what a reset leaves in it.
+ghost use mathlib.Core.Path.{_≡_};
+ghost use Rattle.himib.specs.Step.{stepOf};
+ghost use Rattle.lent.specs.Lent.{together, served, bare, cWrite, cRead, dWrite, dRead};
+
+pub mod lists;
+
+use answer::Answer;
+use himib::step::Chip;
+use himib::step::Stepped;
+use host::Host;
+use record::Asked;
+use record::Record;
+
+// What comes back beside the lent record.
+pub struct Rest {
+    pub chip: Chip,
+    pub answer: Answer,
+}
+
+// A request on a chip and a host's record, by value.
+fn take_by_value(host: Host, chip: Chip, request: Record) -> Stepped
+    ensures { λ s. ⌜ s ≡ served request chip host ⌝ }
+{
+    let asked = request.asked;
+    let source = request.source;
+    chip.take(host, asked, source)
+}
+
+// The same on a lent record.
+fn take(host: &mut Host, chip: Chip, request: Record) -> Rest
+    ensures { λ r. ⌜ together r (now (host .exit)) ≡ served request chip (now (host .entry)) ⌝ }
+{
+    let h = *host;
+    let s = take_by_value(h, chip, request);
+    *host = s.host;
+    Rest {
+        chip: s.chip,
+        answer: s.answer,
+    }
+}
+
+// A C write.
+pub fn write_c(host: &mut Host, chip: Chip, byte: u8) -> Rest
+    ensures { λ r. ⌜ together r (now (host .exit)) ≡ served (cWrite byte) chip (now (host .entry)) ⌝ }
+{
+    let request = c_write(byte);
+    take(host, chip, request)
+}
+
+// A D write.
+pub fn write_d(host: &mut Host, chip: Chip, byte: u8) -> Rest
+    ensures { λ r. ⌜ together r (now (host .exit)) ≡ served (dWrite byte) chip (now (host .entry)) ⌝ }
+{
+    let request = d_write(byte);
+    take(host, chip, request)
+}
+
+// A C read.
+pub fn read_c(host: &mut Host, chip: Chip) -> Rest
+    ensures { λ r. ⌜ together r (now (host .exit)) ≡ served cRead chip (now (host .entry)) ⌝ }
+{
+    let asked = Asked::ReadC;
+    let request = request_for(asked);
+    take(host, chip, request)
+}
+
+// A D read.
+pub fn read_d(host: &mut Host, chip: Chip) -> Rest
+    ensures { λ r. ⌜ together r (now (host .exit)) ≡ served dRead chip (now (host .entry)) ⌝ }
+{
+    let asked = Asked::ReadD;
+    let request = request_for(asked);
+    take(host, chip, request)
+}
+
+// A record of any bytes, of any length.
+pub fn step(host: &mut Host, chip: Chip, bytes: &[u8]) -> Rest
+    ensures { λ r. ⌜ together r (now (host .exit)) ≡ stepOf chip (now (host .entry)) (now (bytes .entry)) ⌝ }
+{
+    let request = record::read_record(bytes);
+    take(host, chip, request)
+}
+
+// A request with no source address.
+fn request_for(asked: Asked) -> Record
+    ensures { λ r. ⌜ r ≡ bare asked ⌝ }
+{
+    Record {
+        asked: asked,
+        source: [0; 6],
+    }
+}
+
+// What a C write asks for: a byte that selects neither P nor R is turned away.
+fn c_write(byte: u8) -> Record
+    ensures { λ r. ⌜ r ≡ cWrite byte ⌝ }
+{
+    if record::selects_neither(byte) {
+        return request_for(Asked::Refused(7));
+    }
+    request_for(Asked::WriteC(byte))
+}
+
+// What a D write asks for.
+fn d_write(byte: u8) -> Record
+    ensures { λ r. ⌜ r ≡ dWrite byte ⌝ }
+{
+    request_for(Asked::WriteD(byte))
+}
