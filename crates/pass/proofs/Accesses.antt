@@ -1,0 +1,71 @@
+-- What a D access can make of the core, as one case law for each: whatever holds of each of these cores holds after the access. Assumes nothing.
+--   after-write == after a D write: the core as it was, after a Set, after a Get, or with other enables
+--   after-read  == after a D read, with its answer: the core as it was and a refusal, or the core after a read of the selected register and a byte
+use Prim.Native.Nat.{ℕ}
+use mathlib.Core.Bool.{Bool, true, false, cond, not, _&&_}
+use mathlib.Core.List.{List}
+use lib.Dec.{eqb}
+use lib.ListN.{set}
+use Rattle.repeater.specs.declared.commands.Command.{Command}
+use Rattle.repeater.specs.declared.commands.Command.the-variants.{Set, Get, Unlisted}
+use Rattle.repeater.specs.declared.commands.Setting.{Setting}
+use Rattle.repeater.specs.declared.commands.Query.{Query}
+use Rattle.repeater.specs.Commands.{commandOf}
+use Rattle.host.specs.declared.Host.{Host}
+use Rattle.host.specs.declared.Register.{Register}
+use Rattle.host.specs.declared.Register.the-variants as reg
+use Rattle.host.specs.Map.{sizeOf, readableReg, writableReg}
+use Rattle.host.specs.Sequence.{readByte}
+use Rattle.answer.specs.declared.Answer.{Answer}
+use Rattle.answer.specs.declared.Answer.the-variants.{Value, Refused}
+use Rattle.attributes.specs.declared.Attributes.{Attributes}
+use Rattle.himib.specs.declared.core.Core.{Core}
+use Rattle.himib.specs.declared.step.Acted.{Acted}
+use Rattle.himib.specs.Changes.{keptBits}
+use Rattle.himib.specs.Chip.{withEnables}
+use Rattle.himib.specs.Access.{turnedAway, selectedBy, valueOf, seen, obeyed, written, isListed, takesCommands, readOf, writeOf, dReadOf, dWriteOf}
+
+-- whichever way a choice goes
+either : (P : Acted → Type 0) (b : Bool) (x y : Acted) → P x → P y → P (cond b x y)
+either P true x y k l = k
+either P false x y k l = l
+
+module _ (P : Core → Type 0) (c : Core) (b : ℕ) (still : P c) (sets : (g : Bool) (s : Setting) → P (obeyed g (Set s) c))
+    (gets : (g : Bool) (q : Query) → P (obeyed g (Get q) c)) (enables : (r : ℕ) → P (withEnables c (set (c .enables) r (keptBits r b)))) where
+  after-command : (g : Bool) (k : Command) → P (obeyed g k c)
+  unfolding obeyed
+  after-command g (Set s) = sets g s
+  after-command g (Get q) = gets g q
+  after-command g Unlisted = still
+
+  after-written : (x : Register) → P (written x b c)
+  unfolding written
+  after-written reg.Unlisted = still
+  after-written reg.TransmitCollisions = still
+  after-written reg.TotalOctets = still
+  after-written reg.Version = still
+  after-written reg.SetPort = after-command false (commandOf b)
+  after-written reg.GetPort = after-command true (commandOf b)
+  after-written (reg.Change r) = still
+  after-written (reg.Enable r) = enables r
+  after-written (reg.Counter p r) = still
+  after-written (reg.Address p) = still
+
+  pub after-write : (h : Host) → P (dWriteOf c h b .core)
+  unfolding dWriteOf writeOf
+  after-write h =
+      let Q : Acted → Type 0 = λ t. P (t .core) in
+      let x : Register = selectedBy h in
+      either Q (eqb (sizeOf x) 0) (turnedAway c h 5) _ still
+      (either Q (not (writableReg x)) (turnedAway c h 6) _ still
+      (either Q (takesCommands x && not (isListed (commandOf b))) (turnedAway c h 4) (writeOf x c h b) still (after-written x)))
+
+module _ (P : Core → Answer → Type 0) (c : Core) (nine : List Attributes) (h : Host) where
+  pub after-read : ((k : ℕ) → P c (Refused k)) → ((v : ℕ) → P (seen (selectedBy h) c) (Value v)) → P (dReadOf c nine h .core) (dReadOf c nine h .answer)
+  unfolding dReadOf readOf
+  after-read away read =
+      let Q : Acted → Type 0 = λ t. P (t .core) (t .answer) in
+      let x : Register = selectedBy h in
+      either Q (eqb (sizeOf x) 0) (turnedAway c h 5) _ (away 5)
+      (either Q (not (readableReg x)) (turnedAway c h 6) (readOf x c nine h) (away 6)
+      (read (readByte (sizeOf x) (valueOf c nine x) h .byte)))

@@ -1,0 +1,585 @@
+-- Demand 3 for the change bits: after any list of records from power-up a change bit is one exactly if its event came after the last accepted read of its register or
+-- reset. Assumes nothing.
+--   events-at         == the bits that `eventsOf` sets are those of the event, register by register
+--   step-bit          == one record clears a bit, or leaves it and adds its event
+--   bits-after        == the same along a list of records, from any bits at all
+--   change-bits-by-past == demand 3
+use Prim.Native.Nat.{ℕ, zero, suc, _+_, _*_, _/_, _%_, _^_, _<_}
+use mathlib.Core.Path.{_≡_, refl, sym, ap, _∙_}
+use mathlib.Core.Bool.{Bool, true, false, cond, not, _&&_, _||_, Bool·beq, and-true, and-false, or-false, true≢false}
+use mathlib.Core.List.{List, [], _∷_, _++_}
+use native.Mathlib.Omega.{arith}
+use borrow.Author.Tests.{eq-eqb, ne-eqb, eqb-true}
+use lib.Dec.{eqb, ltb, eqb·suc-suc, lit<}
+use lib.ListN.{length, getD, set, replicate, length-set, getD-replicate}
+use lib.Bits.{bitOr, bitXor, differ, xor-step}
+use Rattle.ports.specs.Sets.{aui, has, setOf, without}
+use Rattle.ports.specs.Each.{each}
+use Rattle.ports.proofs.Sets.{has-none, has-or, has-mod, has-power, set-true}
+use Rattle.ports.proofs.Each.{each-length, each-at, set-keeps}
+use Rattle.record.specs.declared.Asked.{Asked}
+use Rattle.record.specs.declared.Asked.the-variants as ask
+use Rattle.record.specs.declared.Burst.{Burst}
+use Rattle.record.specs.Refusals.{recordOf}
+use Rattle.repeater.specs.declared.port.Port.{Port}
+use Rattle.repeater.specs.declared.burst.Burst as Wire
+use Rattle.repeater.specs.declared.burst.Heard.{Heard}
+use Rattle.repeater.specs.declared.burst.Heard.the-variants.{Nothing, One, More}
+use Rattle.repeater.specs.declared.burst.Hearing.{Hearing}
+use Rattle.repeater.specs.declared.burst.Effect.{Effect}
+use Rattle.repeater.specs.declared.repeater.Repeater.{Repeater}
+use Rattle.repeater.specs.declared.repeater.Bursted.{Bursted}
+use Rattle.repeater.specs.Burst.{hearingOf, effectOf}
+use Rattle.repeater.specs.Status.{marksOf}
+use Rattle.repeater.specs.Repeater.{setTo, gotOf, tickedAll, pulsedAll, followed, burstOf, partitionedOf, linkedOf}
+use Rattle.repeater.proofs.Heard.{one-heard}
+use Rattle.host.specs.declared.Host.{Host}
+use Rattle.host.specs.declared.Register.{Register}
+use Rattle.host.specs.declared.Register.the-variants as reg
+use Rattle.answer.specs.declared.Answer.{Answer}
+use Rattle.answer.specs.declared.Answer.the-variants.{Value, Refused}
+use Rattle.answer.specs.Answer.{outputsOf}
+use Rattle.attributes.specs.declared.Attributes.{Attributes}
+use Rattle.attributes.specs.Credits.{noAttributes, newcomer, changedOf, one, shareOf, creditsOf, counted, creditedWith, creditedAt}
+use Rattle.himib.specs.declared.core.Core.{Core}
+use Rattle.himib.specs.declared.step.Chip.{Chip}
+use Rattle.himib.specs.declared.step.Acted.{Acted}
+use Rattle.himib.specs.Changes.{bit7, eventsOf, noted}
+use Rattle.himib.specs.Bursts.{wired, cutBy, burstCore, burstOn}
+use Rattle.himib.specs.Chip.{moved}
+use Rattle.himib.specs.Access.{cReadOf, dReadOf, dWriteOf, obeyed, seen, selectedBy}
+use Rattle.himib.specs.Step.{actOn, withAddress, readdressed, taken, stepOf}
+use Rattle.pass.specs.Runs.{Point, Happening, happening, history, run, start, Given, kindOf, accepted, ifBurst}
+use Rattle.pass.specs.Pass.{changeBit, differs, changes, isChange, clears, noneOf, cameAfter, ChangeBitsByPast}
+use Rattle.pass.specs.Examples.{noAddress, burstRecord, pulseRecord, cWriteRecord, dReadRecord, resetRecord, attributesUp, up}
+use Rattle.pass.proofs.Computing.{step-computes}
+use Rattle.pass.proofs.Accesses.{after-write, after-read}
+
+-- AT ONE VALUE
+
+given-up : Given attributesUp 0 0
+given-up = record {
+  ports = refl;
+  thirteen = λ i h. rw (getD-replicate 9 i noAttributes noAttributes h);
+  low = λ i r h l. rw (getD-replicate 9 i noAttributes noAttributes h, getD-replicate {A = ℕ} 13 r 0 0 l) (lit< tt);
+  collisions-low = lit< tt;
+  octets-low = lit< tt;
+}
+
+-- From power-up the records leave bit j of register R one or not, and this is whether its event came after the last clearing record.
+abbrev Both : ℕ → ℕ → List (List ℕ) → Bool → Type 0
+Both r j rs b = (changeBit r j (run up rs) ≡ b) × (cameAfter (changes r j) (clears r) (history up rs) ≡ b)
+
+-- AUI is partitioned by a long collision, and connected again
+abbrev cut : List (List ℕ)
+cut = burstRecord 0b100000000 0b00100 2000 0 0 100 1025 noAddress ∷ []
+
+abbrev joined : List (List ℕ)
+joined = burstRecord 0b100000000 0 513 0 0 0 0 noAddress ∷ []
+
+-- register R of P 1 is selected and read; P 1 has no R 5, so that this read is turned away
+abbrev look : ℕ → List (List ℕ)
+look r = cWriteRecord 1 ∷ cWriteRecord (224 + r) ∷ dReadRecord ∷ []
+
+-- TP0 and TP1 are partitioned so
+abbrev split : List (List ℕ)
+split = replicate 4 (pulseRecord 0b11) ++ (burstRecord 0b11 0 2000 0 0 100 1025 noAddress ∷ [])
+
+-- TP0, whose link has come up, sends a frame from the address a, with loopback missing and SQE Test seen
+abbrev frame : ℕ → List (List ℕ)
+frame a = replicate 4 (pulseRecord 0b1) ++ (burstRecord 0b1 0b11000 1000 64 0 0 0 (a ∷ replicate 5 0) ∷ [])
+
+-- AUI sends one
+abbrev greeting : List (List ℕ)
+greeting = burstRecord 0b100000000 0 1000 64 0 0 0 (1 ∷ replicate 5 0) ∷ []
+
+set-read-set : Both 1 7 cut true
+    × Both 1 7 (cut ++ look 1) false
+    × Both 1 7 (cut ++ look 1 ++ joined) true
+    × Both 1 7 (cut ++ look 0) true
+    × Both 1 7 (cut ++ look 5) true
+    × Both 1 7 (cut ++ (resetRecord ∷ [])) false
+unfolding step-computes run history happening kindOf accepted ifBurst changes noneOf cameAfter
+set-read-set = ((refl, refl), (refl, refl), (refl, refl), (refl, refl), (refl, refl), (refl, refl))
+
+each-register : Both 0 0 (split ++ look 5) true
+    × Both 1 7 cut true
+    × Both 2 0 (frame 1) true
+    × Both 2 1 (frame 1) false
+    × Both 3 7 (frame 1) true
+    × Both 4 7 (frame 1) true
+    × Both 6 0 (frame 1) true
+    × Both 6 0 (frame 0) false
+    × Both 6 0 (frame 1 ++ look 6 ++ frame 1) false
+    × Both 7 7 greeting true
+unfolding step-computes run history happening kindOf accepted ifBurst changes noneOf cameAfter
+each-register = ((refl, refl), (refl, refl), (refl, refl), (refl, refl), (refl, refl), (refl, refl), (refl, refl), (refl, refl), (refl, refl), (refl, refl))
+
+-- SETS THAT DIFFER
+
+differ-low : (a b : ℕ) → a < 2 → b < 2 → differ a b < 2
+differ-low zero b p q = q
+differ-low (suc zero) zero p q = omega arith
+differ-low (suc zero) (suc zero) p q = omega arith
+differ-low (suc zero) (suc (suc b)) p q = absurd (omega arith)
+differ-low (suc (suc a)) b p q = absurd (omega arith)
+
+differ-digit : (a b : ℕ) → a < 2 → b < 2 → eqb (differ a b) 1 ≡ differs (eqb a 1) (eqb b 1)
+differ-digit zero zero p q = refl
+differ-digit zero (suc zero) p q = refl
+differ-digit zero (suc (suc b)) p q = absurd (omega arith)
+differ-digit (suc zero) zero p q = refl
+differ-digit (suc zero) (suc zero) p q = refl
+differ-digit (suc zero) (suc (suc b)) p q = absurd (omega arith)
+differ-digit (suc (suc a)) b p q = absurd (omega arith)
+
+last : (x d : ℕ) → d < 2 → (x * 2 + d) % 2 ≡ d
+last x d h = omega arith
+
+rest : (x d : ℕ) → d < 2 → (x * 2 + d) / 2 ≡ x
+rest x d h = omega arith
+
+has-xor : (a b i : ℕ) → has (bitXor a b) i ≡ differs (has a i) (has b i)
+unfolding has
+has-xor a b zero =
+    let x = bitXor (a / 2) (b / 2) in
+    let d = differ-low (a % 2) (b % 2) (omega arith) (omega arith) in
+    rw (xor-step a b, last x (differ (a % 2) (b % 2)) d) (differ-digit (a % 2) (b % 2) (omega arith) (omega arith))
+has-xor a b (suc i) =
+    let x = bitXor (a / 2) (b / 2) in
+    let d = differ-low (a % 2) (b % 2) (omega arith) (omega arith) in
+    ap (λ (n : ℕ). has n i) (ap (λ (n : ℕ). n / 2) (xor-step a b) ∙ rest x (differ (a % 2) (b % 2)) d) ∙ has-xor (a / 2) (b / 2) i
+
+-- THE BITS OF ONE RECORD'S EVENTS
+
+-- bit j of register R, of the ports whose partition changed, those whose link did, a loopback error, an SQE Test, and the ports whose address changed
+unfoldable pub eventBit : ℕ → ℕ → (ℕ → Bool) → (ℕ → Bool) → Bool → Bool → (ℕ → Bool) → Bool
+eventBit r j part link loopback sqe address =
+    cond (eqb r 0) (part j)
+    (cond (eqb r 1) (eqb j 7 && part aui)
+    (cond (eqb r 2) (link j)
+    (cond (eqb r 3) (eqb j 7 && loopback)
+    (cond (eqb r 4) (eqb j 7 && sqe)
+    (cond (eqb r 6) (address j)
+    (cond (eqb r 7) (eqb j 7 && address aui)
+    false))))))
+
+bit7-at : (b : Bool) (j : ℕ) → has (bit7 b) j ≡ (eqb j 7 && b)
+bit7-at true j = has-power 7 j ∙ sym (and-true (eqb j 7))
+bit7-at false j = has-none j ∙ sym (and-false (eqb j 7))
+
+events-at : (part link : ℕ) (loopback sqe : Bool) (address r j : ℕ) → r < 8 → j < 8
+    → has (getD (eventsOf part link loopback sqe address) r 0) j ≡ eventBit r j (has part) (has link) loopback sqe (has address)
+unfolding eventsOf eventBit
+events-at part link loopback sqe address zero j h l = has-mod 8 part j l
+events-at part link loopback sqe address (suc zero) j h l = bit7-at (has part aui) j
+events-at part link loopback sqe address (suc (suc zero)) j h l = has-mod 8 link j l
+events-at part link loopback sqe address (suc (suc (suc zero))) j h l = bit7-at loopback j
+events-at part link loopback sqe address (suc (suc (suc (suc zero)))) j h l = bit7-at sqe j
+events-at part link loopback sqe address (suc (suc (suc (suc (suc zero))))) j h l = has-none j
+events-at part link loopback sqe address (suc (suc (suc (suc (suc (suc zero)))))) j h l = has-mod 8 address j l
+events-at part link loopback sqe address (suc (suc (suc (suc (suc (suc (suc zero))))))) j h l = bit7-at (has address aui) j
+events-at part link loopback sqe address (suc (suc (suc (suc (suc (suc (suc (suc r)))))))) j h l = absurd (omega arith)
+
+-- two functions that are the same for the nine ports
+abbrev Alike : (ℕ → Bool) → (ℕ → Bool) → Type 0
+Alike f g = (i : ℕ) → i < 9 → f i ≡ g i
+
+same-bit : (r j : ℕ) (p p' k k' a a' : ℕ → Bool) (l s : Bool) → j < 8 → Alike p p' → Alike k k' → Alike a a' → eventBit r j p k l s a ≡ eventBit r j p' k' l s a'
+unfolding eventBit
+same-bit r j p p' k k' a a' l s h u v w =
+    rw (u j (omega arith), u aui (omega arith), v j (omega arith), w j (omega arith), w aui (omega arith))
+
+abbrev nobody : ℕ → Bool
+nobody i = false
+
+-- nothing happened
+no-bit : (r j : ℕ) → r < 8 → eventBit r j nobody nobody false false nobody ≡ false
+unfolding eventBit
+no-bit zero j h = refl
+no-bit (suc zero) j h = and-false (eqb j 7)
+no-bit (suc (suc zero)) j h = refl
+no-bit (suc (suc (suc zero))) j h = and-false (eqb j 7)
+no-bit (suc (suc (suc (suc zero)))) j h = and-false (eqb j 7)
+no-bit (suc (suc (suc (suc (suc zero))))) j h = refl
+no-bit (suc (suc (suc (suc (suc (suc zero)))))) j h = refl
+no-bit (suc (suc (suc (suc (suc (suc (suc zero))))))) j h = and-false (eqb j 7)
+no-bit (suc (suc (suc (suc (suc (suc (suc (suc r)))))))) j h = absurd (omega arith)
+
+-- a register that a read clears, and any other
+zeroed : (cs : List ℕ) (k r : ℕ) → getD (set cs k 0) r 0 ≡ cond (eqb k r) 0 (getD cs r 0)
+zeroed [] k r = go (eqb k r)
+  where
+    go : (b : Bool) → _≡_ {A = ℕ} 0 (cond b 0 0)
+    go true = refl
+    go false = refl
+zeroed (x ∷ cs) zero zero = refl
+zeroed (x ∷ cs) zero (suc r) = rw (ne-eqb 0 (suc r) (λ e. omega arith))
+zeroed (x ∷ cs) (suc k) zero = rw (ne-eqb (suc k) 0 (λ e. omega arith))
+zeroed (x ∷ cs) (suc k) (suc r) = rw (eqb·suc-suc k r) (zeroed cs k r)
+
+-- bit j of register R of the core
+abbrev bitOf : ℕ → ℕ → Core → Bool
+bitOf r j c = has (getD (c .changes) r 0) j
+
+noted-at : (es cs : List ℕ) (r j : ℕ) → r < length cs → has (getD (noted es cs) r 0) j ≡ (has (getD cs r 0) j || has (getD es r 0) j)
+unfolding noted
+noted-at es cs r j h =
+    ap (λ (n : ℕ). has n j) (each-at (λ r c. bitOr c (getD es r 0)) cs r 0 0 h) ∙ has-or (getD cs r 0) (getD es r 0) j
+
+moved-bit : (c : Core) (q : Repeater) (loopback sqe : Bool) (address r j : ℕ) → length (c .changes) ≡ 8 → r < 8 → j < 8
+    → bitOf r j (moved c q loopback sqe address)
+    ≡ (bitOf r j c || eventBit r j (has (bitXor (partitionedOf (c .repeater)) (partitionedOf q))) (has (bitXor (linkedOf (c .repeater)) (linkedOf q))) loopback sqe (has address))
+unfolding moved
+moved-bit c q loopback sqe address r j n h l =
+    let part = bitXor (partitionedOf (c .repeater)) (partitionedOf q) in
+    let link = bitXor (linkedOf (c .repeater)) (linkedOf q) in
+    noted-at (eventsOf part link loopback sqe address) (c .changes) r j (omega arith)
+    ∙ ap (λ (b : Bool). bitOf r j c || b) (events-at part link loopback sqe address r j h l)
+
+-- WHAT A RECORD MAKES OF COUNTER 12
+
+-- Source Address Changes of port i
+abbrev pub addressCounter : List Attributes → ℕ → ℕ
+addressCounter nine i = getD (getD nine i noAttributes .counters) 12 0
+
+-- the ports for which it moved
+abbrev countedIn : List Attributes → List Attributes → ℕ → Bool
+countedIn nine next i = not (eqb (addressCounter nine i) (addressCounter next i))
+
+-- the nine counters are there, and fit
+pub record Fits (nine : List Attributes) : Type 0 where
+  pub ports : length nine ≡ 9
+  pub there : (i : ℕ) → i < 9 → 12 < length (getD nine i noAttributes .counters)
+  pub low : (i : ℕ) → i < 9 → addressCounter nine i < 2 ^ 32
+
+-- an address that is written leaves every counter
+readdressed-counters : (p : ℕ) (bs : List ℕ) (nine : List Attributes) (i : ℕ) → getD (readdressed p bs nine) i noAttributes .counters ≡ getD nine i noAttributes .counters
+unfolding readdressed
+readdressed-counters p bs nine i = go (ltb p 9)
+  where
+    go : (b : Bool) → getD (cond b (set nine p (withAddress (getD nine p noAttributes) bs)) nine) i noAttributes .counters ≡ getD nine i noAttributes .counters
+    go true = set-keeps (λ (a : Attributes). a .counters) nine p i (withAddress (getD nine p noAttributes) bs) noAttributes refl
+    go false = refl
+
+readdressed-length : (p : ℕ) (bs : List ℕ) (nine : List Attributes) → length (readdressed p bs nine) ≡ length nine
+unfolding readdressed
+readdressed-length p bs nine = go (ltb p 9)
+  where
+    go : (b : Bool) → length (cond b (set nine p (withAddress (getD nine p noAttributes) bs)) nine) ≡ length nine
+    go true = length-set nine p (withAddress (getD nine p noAttributes) bs)
+    go false = refl
+
+readdressed-fits : (p : ℕ) (bs : List ℕ) (nine : List Attributes) → Fits nine → Fits (readdressed p bs nine)
+readdressed-fits p bs nine f = record {
+  ports = readdressed-length p bs nine ∙ f .ports;
+  there = λ i h. rw (readdressed-counters p bs nine i) (f .there i h);
+  low = λ i h. rw (readdressed-counters p bs nine i) (f .low i h);
+}
+
+same-counter : (n m : ℕ) → m ≡ n → not (eqb n m) ≡ false
+same-counter n m e = rw (eq-eqb n m (sym e))
+
+readdressed-counted : (p : ℕ) (bs : List ℕ) (nine : List Attributes) (i : ℕ) → countedIn nine (readdressed p bs nine) i ≡ false
+readdressed-counted p bs nine i =
+    same-counter (addressCounter nine i) (addressCounter (readdressed p bs nine) i) (ap (λ (cs : List ℕ). getD cs 12 0) (readdressed-counters p bs nine i))
+
+-- a burst's credit
+module _ (g : Hearing) (f : Effect) (cut changed : ℕ) (b : Burst) (source : List ℕ) (i : ℕ) (a : Attributes) where
+  credited-length : length (creditedAt g f cut changed b source i a .counters) ≡ length (a .counters)
+  unfolding creditedAt creditedWith counted
+  credited-length = go (has (g .h) i || has cut i)
+    where
+      go : (t : Bool) → length (cond t (creditedWith (shareOf g f cut changed i) b source a) a .counters) ≡ length (a .counters)
+      go true = each-length (λ r c. (c + getD (creditsOf (shareOf g f cut changed i) b) r 0) % 2 ^ 32) (a .counters)
+      go false = refl
+
+  -- a port that the burst does not touch has no new address
+  credited-counter : 12 < length (a .counters) → (has changed i ≡ true → has (g .h) i ≡ true) → getD (a .counters) 12 0 < 2 ^ 32
+      → getD (creditedAt g f cut changed b source i a .counters) 12 0 ≡ (getD (a .counters) 12 0 + one (has changed i)) % 2 ^ 32
+  unfolding creditedAt creditedWith counted creditsOf shareOf
+  credited-counter k heard low = go (has (g .h) i) (has cut i) (has changed i) refl refl refl
+    where
+      n : ℕ
+      n = getD (a .counters) 12 0
+
+      credited : getD (counted (creditsOf (shareOf g f cut changed i) b) (a .counters)) 12 0 ≡ (n + one (has changed i)) % 2 ^ 32
+      credited = each-at (λ r c. (c + getD (creditsOf (shareOf g f cut changed i) b) r 0) % 2 ^ 32) (a .counters) 12 0 0 k
+
+      go : (x y z : Bool) → has (g .h) i ≡ x → has cut i ≡ y → has changed i ≡ z → getD (creditedAt g f cut changed b source i a .counters) 12 0 ≡ (n + one (has changed i)) % 2 ^ 32
+      go true y z p q r = rw p credited
+      go false true z p q r = rw (p, q) credited
+      go false false true p q r = absurd (true≢false (sym (heard r) ∙ p))
+      go false false false p q r = rw (p, q, r) (omega arith)
+
+module _ (g : Hearing) (f : Effect) (cut changed : ℕ) (b : Burst) (source : List ℕ) (nine : List Attributes) (fits : Fits nine)
+    (heard : (i : ℕ) → has changed i ≡ true → has (g .h) i ≡ true) where
+  abbrev after : List Attributes
+  after = each (creditedAt g f cut changed b source) nine
+
+  credited-at : (i : ℕ) → i < 9 → getD after i noAttributes ≡ creditedAt g f cut changed b source i (getD nine i noAttributes)
+  credited-at i h = each-at (creditedAt g f cut changed b source) nine i noAttributes noAttributes (omega (arith, fits .ports))
+
+  counter-after : (i : ℕ) → i < 9 → addressCounter after i ≡ (addressCounter nine i + one (has changed i)) % 2 ^ 32
+  counter-after i h =
+      rw (credited-at i h) (credited-counter g f cut changed b source i (getD nine i noAttributes) (fits .there i h) (heard i) (fits .low i h))
+
+  credited-fits : Fits after
+  credited-fits = record {
+    ports = each-length (creditedAt g f cut changed b source) nine ∙ fits .ports;
+    there = λ i h. rw (credited-at i h, credited-length g f cut changed b source i (getD nine i noAttributes)) (fits .there i h);
+    low = λ i h. rw (counter-after i h) (omega arith);
+  }
+
+  -- the counter moves exactly for the ports that have a new address
+  told : (n : ℕ) (z : Bool) → n < 2 ^ 32 → z ≡ not (eqb n ((n + one z) % 2 ^ 32))
+  told n true h = rw (ne-eqb n ((n + 1) % 2 ^ 32) (λ e. omega arith))
+  told n false h = rw (eq-eqb n ((n + 0) % 2 ^ 32) (omega arith))
+
+  credited-counted : (i : ℕ) → i < 9 → has changed i ≡ countedIn nine after i
+  credited-counted i h = rw (counter-after i h) (told (addressCounter nine i) (has changed i) (fits .low i h))
+
+-- WHAT STANDS AT EVERY POINT OF A RUN
+
+record Firm (p : Point) : Type 0 where
+  pub eight : length (p .chip .core .changes) ≡ 8
+  pub fits : Fits (p .chip .attributes)
+
+firm-start : (nine : List Attributes) (collisions octets : ℕ) → Given nine collisions octets → Firm (start nine collisions octets)
+firm-start nine collisions octets g = record {
+  eight = refl;
+  fits = record { ports = g .ports; there = λ i h. omega (arith, g .thirteen i h); low = λ i h. g .low i 12 h (omega arith) };
+}
+
+-- only a heard port has a new address
+module _ (ps : List Port) (w : Wire.Burst) (f : Effect) (b : Burst) (source : List ℕ) (nine : List Attributes) (i : ℕ) where
+  heard-changed : has (changedOf (hearingOf ps w .heard) f b source nine) i ≡ true → has (hearingOf ps w .h) i ≡ true
+  unfolding changedOf
+  heard-changed h = go (hearingOf ps w .heard) refl h
+    where
+      named : (p : ℕ) (n : Bool) → hearingOf ps w .heard ≡ One p → has (cond n (setOf (λ i. eqb i p)) 0) i ≡ true → has (hearingOf ps w .h) i ≡ true
+      named p true e k = rw (eqb-true i p (set-true (λ i. eqb i p) i k)) (one-heard ps w p .forth e .is)
+      named p false e k = absurd (true≢false (sym k ∙ has-none i))
+
+      go : (k : Heard) → hearingOf ps w .heard ≡ k → has (changedOf k f b source nine) i ≡ true → has (hearingOf ps w .h) i ≡ true
+      go Nothing e k = absurd (true≢false (sym k ∙ has-none i))
+      go (One p) e k = named p (newcomer p f b source nine) e k
+      go More e k = absurd (true≢false (sym k ∙ has-none i))
+
+-- as many change registers as before
+moved-length : (c : Core) (q : Repeater) (loopback sqe : Bool) (address : ℕ) → length (moved c q loopback sqe address .changes) ≡ length (c .changes)
+unfolding moved noted
+moved-length c q loopback sqe address =
+    each-length (λ r m. bitOr m (getD (eventsOf (bitXor (partitionedOf (c .repeater)) (partitionedOf q)) (bitXor (linkedOf (c .repeater)) (linkedOf q)) loopback sqe address) r 0)) (c .changes)
+
+seen-length : (x : Register) (c : Core) → length (seen x c .changes) ≡ length (c .changes)
+unfolding seen
+seen-length reg.Unlisted c = refl
+seen-length reg.TransmitCollisions c = refl
+seen-length reg.TotalOctets c = refl
+seen-length reg.Version c = refl
+seen-length reg.SetPort c = refl
+seen-length reg.GetPort c = refl
+seen-length (reg.Change r) c = length-set (c .changes) r 0
+seen-length (reg.Enable r) c = refl
+seen-length (reg.Counter p r) c = refl
+seen-length (reg.Address p) c = refl
+
+module _ (source : List ℕ) (s : Chip) (host : Host) where
+  eight-after : (a : Asked) → length (s .core .changes) ≡ 8 → length (taken a source s host .chip .core .changes) ≡ 8
+  unfolding taken actOn burstOn burstCore cReadOf obeyed
+  eight-after (ask.Burst b) n = moved-length (s .core) _ _ _ _ ∙ n
+  eight-after (ask.Pulse m) n = moved-length (s .core) _ _ _ _ ∙ n
+  eight-after ask.Tick n = moved-length (s .core) _ _ _ _ ∙ n
+  eight-after (ask.WriteC b) n = n
+  eight-after (ask.WriteD b) n =
+      after-write (λ d. length (d .changes) ≡ 8) (s .core) b n (λ g k. moved-length (s .core) _ _ _ _ ∙ n) (λ g q. moved-length (s .core) _ _ _ _ ∙ n) (λ k. n) host
+  eight-after ask.ReadC n = n
+  eight-after ask.ReadD n = after-read (λ d v. length (d .changes) ≡ 8) (s .core) (s .attributes) host (λ k. n) (λ v. seen-length (selectedBy host) (s .core) ∙ n)
+  eight-after ask.Reset n = refl
+  eight-after (ask.Refused k) n = n
+
+  fits-after : (a : Asked) → Fits (s .attributes) → Fits (taken a source s host .chip .attributes)
+  unfolding taken burstOn burstOf followed
+  fits-after (ask.Burst b) f =
+      let t : Bursted = burstOf (s .core .repeater) (wired b) in
+      let g : Hearing = hearingOf (s .core .repeater .ports) (wired b) in
+      credited-fits g (t .effect) (cutBy (s .core) t) (changedOf (g .heard) (t .effect) b source (s .attributes)) b source (s .attributes) f
+      (heard-changed (s .core .repeater .ports) (wired b) (t .effect) b source (s .attributes))
+  fits-after (ask.Pulse m) f = readdressed-fits _ _ (s .attributes) f
+  fits-after ask.Tick f = readdressed-fits _ _ (s .attributes) f
+  fits-after (ask.WriteC b) f = readdressed-fits _ _ (s .attributes) f
+  fits-after (ask.WriteD b) f = readdressed-fits _ _ (s .attributes) f
+  fits-after ask.ReadC f = readdressed-fits _ _ (s .attributes) f
+  fits-after ask.ReadD f = readdressed-fits _ _ (s .attributes) f
+  fits-after ask.Reset f = readdressed-fits _ _ (s .attributes) f
+  fits-after (ask.Refused k) f = readdressed-fits _ _ (s .attributes) f
+
+firm-after : (p : Point) (bs : List ℕ) → Firm p → Firm (happening p bs .after)
+unfolding happening stepOf
+firm-after p bs f = record {
+  eight = eight-after (recordOf bs .source) (p .chip) (p .host) (recordOf bs .asked) (f .eight);
+  fits = fits-after (recordOf bs .source) (p .chip) (p .host) (recordOf bs .asked) (f .fits);
+}
+
+-- ONE RECORD
+
+-- the event of bit j of register R between two states
+abbrev between : ℕ → ℕ → Bool → Bool → Repeater → Repeater → List Attributes → List Attributes → Bool
+between r j loopback sqe x y nine next =
+    eventBit r j (λ i. differs (has (partitionedOf x) i) (has (partitionedOf y) i)) (λ i. differs (has (linkedOf x) i) (has (linkedOf y) i)) loopback sqe (countedIn nine next)
+
+differs-self : (b : Bool) → differs b b ≡ false
+differs-self true = refl
+differs-self false = refl
+
+module _ (r j : ℕ) (h : r < 8) (l : j < 8) where
+  module _ (c : Core) (n : length (c .changes) ≡ 8) (nine next : List Attributes) where
+    -- the bits are noted
+    moved-step : (q : Repeater) (loopback sqe : Bool) (address : ℕ) → Alike (has address) (countedIn nine next)
+        → bitOf r j (moved c q loopback sqe address) ≡ (bitOf r j c || between r j loopback sqe (c .repeater) q nine next)
+    moved-step q loopback sqe address a =
+        moved-bit c q loopback sqe address r j n h l
+        ∙ ap (λ (b : Bool). bitOf r j c || b)
+        (same-bit r j _ _ _ _ _ _ loopback sqe l (λ i k. has-xor (partitionedOf (c .repeater)) (partitionedOf q) i) (λ i k. has-xor (linkedOf (c .repeater)) (linkedOf q) i) a)
+
+    module _ (a : (i : ℕ) → countedIn nine next i ≡ false) where
+      quiet-step : (q : Repeater) → bitOf r j (moved c q false false 0) ≡ (bitOf r j c || between r j false false (c .repeater) q nine next)
+      quiet-step q = moved-step q false false 0 (λ i k. has-none i ∙ sym (a i))
+
+      -- nothing happens
+      nothing : between r j false false (c .repeater) (c .repeater) nine next ≡ false
+      nothing =
+          same-bit r j _ nobody _ nobody _ nobody false false l (λ i k. differs-self (has (partitionedOf (c .repeater)) i)) (λ i k. differs-self (has (linkedOf (c .repeater)) i)) (λ i k. a i)
+          ∙ no-bit r j h
+
+      still-step : bitOf r j c ≡ (bitOf r j c || between r j false false (c .repeater) (c .repeater) nine next)
+      still-step = sym (ap (λ (b : Bool). bitOf r j c || b) nothing ∙ or-false (bitOf r j c))
+
+    -- a read of register x
+    module _ (a : (i : ℕ) → countedIn nine next i ≡ false) where
+      abbrev Seen : Register → Type 0
+      Seen x = bitOf r j (seen x c) ≡ cond (isChange r x) false (bitOf r j c || between r j false false (c .repeater) (seen x c .repeater) nine next)
+
+      change-seen : (k : ℕ) → Seen (reg.Change k)
+      unfolding seen
+      change-seen k = go (eqb k r) refl
+        where
+          go : (b : Bool) → eqb k r ≡ b
+              → has (getD (set (c .changes) k 0) r 0) j ≡ cond (eqb k r) false (bitOf r j c || between r j false false (c .repeater) (c .repeater) nine next)
+          go true e = rw (zeroed (c .changes) k r, e) (has-none j)
+          go false e = rw (zeroed (c .changes) k r, e) (still-step a)
+
+      read-seen : (x : Register) → Seen x
+      unfolding seen
+      read-seen reg.Unlisted = still-step a
+      read-seen reg.TransmitCollisions = still-step a
+      read-seen reg.TotalOctets = still-step a
+      read-seen reg.Version = still-step a
+      read-seen reg.SetPort = still-step a
+      read-seen reg.GetPort = still-step a
+      read-seen (reg.Change k) = change-seen k
+      read-seen (reg.Enable k) = still-step a
+      read-seen (reg.Counter p k) = still-step a
+      read-seen (reg.Address p) = still-step a
+
+  -- what clears the bit, and the events of a burst, by what is asked
+  abbrev clearsFor : Asked → Register → Answer → Bool
+  clearsFor a x v = eqb (kindOf a) 8 || (eqb (kindOf a) 7 && accepted v && isChange r x)
+
+  abbrev loopbackFor : Asked → Answer → Bool
+  loopbackFor a v = ifBurst false (λ b. b .«loopback_missing» && has (outputsOf v) aui) a
+
+  abbrev sqeFor : Asked → Bool
+  sqeFor a = ifBurst false (λ b. b .«sqe_test») a
+
+  module _ (source : List ℕ) (s : Chip) (host : Host) (n : length (s .core .changes) ≡ 8) (f : Fits (s .attributes)) where
+    abbrev Steps : Asked → Type 0
+    Steps a =
+        bitOf r j (taken a source s host .chip .core)
+        ≡ cond (clearsFor a (selectedBy host) (taken a source s host .answer)) false
+        (bitOf r j (s .core)
+        || between r j (loopbackFor a (taken a source s host .answer)) (sqeFor a) (s .core .repeater) (taken a source s host .chip .core .repeater) (s .attributes) (taken a source s host .chip .attributes))
+
+    burst-step : (b : Burst) → Steps (ask.Burst b)
+    unfolding taken burstOn burstCore burstOf followed marksOf wired moved kindOf ifBurst
+    burst-step b =
+        let t : Bursted = burstOf (s .core .repeater) (wired b) in
+        let g : Hearing = hearingOf (s .core .repeater .ports) (wired b) in
+        let changed : ℕ = changedOf (g .heard) (t .effect) b source (s .attributes) in
+        moved-step (s .core) n (s .attributes) (each (creditedAt g (t .effect) (cutBy (s .core) t) changed b source) (s .attributes)) (t .repeater) (t .marks .loopback) (t .marks .sqe) changed
+        (credited-counted g (t .effect) (cutBy (s .core) t) changed b source (s .attributes) f (heard-changed (s .core .repeater .ports) (wired b) (t .effect) b source (s .attributes)))
+
+    write-step : (b : ℕ) → Steps (ask.WriteD b)
+    unfolding taken actOn obeyed moved kindOf ifBurst
+    write-step b =
+        let t : Acted = dWriteOf (s .core) host b in
+        let next : List Attributes = readdressed (t .port) (t .host .bytes) (s .attributes) in
+        let a : (i : ℕ) → countedIn (s .attributes) next i ≡ false = readdressed-counted (t .port) (t .host .bytes) (s .attributes) in
+        after-write (λ d. bitOf r j d ≡ (bitOf r j (s .core) || between r j false false (s .core .repeater) (d .repeater) (s .attributes) next)) (s .core) b
+        (still-step (s .core) n (s .attributes) next a)
+        (λ g k. quiet-step (s .core) n (s .attributes) next a (setTo k (s .core .repeater)))
+        (λ g q. quiet-step (s .core) n (s .attributes) next a (gotOf q (s .core .repeater) .repeater))
+        (λ k. still-step (s .core) n (s .attributes) next a)
+        host
+
+    read-step : Steps ask.ReadD
+    unfolding taken actOn kindOf ifBurst accepted
+    read-step =
+        let t : Acted = dReadOf (s .core) (s .attributes) host in
+        let next : List Attributes = readdressed (t .port) (t .host .bytes) (s .attributes) in
+        let a : (i : ℕ) → countedIn (s .attributes) next i ≡ false = readdressed-counted (t .port) (t .host .bytes) (s .attributes) in
+        after-read
+        (λ d v. bitOf r j d ≡ cond (accepted v && isChange r (selectedBy host)) false (bitOf r j (s .core) || between r j false false (s .core .repeater) (d .repeater) (s .attributes) next))
+        (s .core) (s .attributes) host (λ k. still-step (s .core) n (s .attributes) next a) (λ v. read-seen (s .core) n (s .attributes) next a (selectedBy host))
+
+    other-step : (a : Asked) → Steps a
+    unfolding taken actOn moved cReadOf readdressed kindOf ifBurst
+    other-step (ask.Burst b) = burst-step b
+    other-step (ask.Pulse m) = quiet-step (s .core) n (s .attributes) (s .attributes) (λ i. same-counter (addressCounter (s .attributes) i) _ refl) (pulsedAll (s .core .repeater) m)
+    other-step ask.Tick = quiet-step (s .core) n (s .attributes) (s .attributes) (λ i. same-counter (addressCounter (s .attributes) i) _ refl) (tickedAll (s .core .repeater))
+    other-step (ask.WriteC b) = still-step (s .core) n (s .attributes) (s .attributes) (λ i. same-counter (addressCounter (s .attributes) i) _ refl)
+    other-step (ask.WriteD b) = write-step b
+    other-step ask.ReadC = still-step (s .core) n (s .attributes) (s .attributes) (λ i. same-counter (addressCounter (s .attributes) i) _ refl)
+    other-step ask.ReadD = read-step
+    other-step ask.Reset = rw (getD-replicate {A = ℕ} 8 r 0 0 h) (has-none j)
+    other-step (ask.Refused k) = still-step (s .core) n (s .attributes) (s .attributes) (λ i. same-counter (addressCounter (s .attributes) i) _ refl)
+
+  step-bit : (p : Point) (bs : List ℕ) → Firm p
+      → changeBit r j (happening p bs .after) ≡ cond (clears r (happening p bs)) false (changeBit r j p || changes r j (happening p bs))
+  unfolding happening stepOf changes eventBit
+  step-bit p bs f = other-step (recordOf bs .source) (p .chip) (p .host) (f .eight) (f .fits) (recordOf bs .asked)
+
+-- ALL RECORDS
+
+-- the bits after one record more: whether it clears, the bit before it, its event, whether a later record clears, and whether the event came after all clearing ones
+shuffled : (c x e n m : Bool) → (cond c false (x || e) && n || m) ≡ (x && (not c && n) || (m || e && not c && n))
+shuffled true true true n m = sym (or-false m)
+shuffled true true false n m = sym (or-false m)
+shuffled true false true n m = sym (or-false m)
+shuffled true false false n m = sym (or-false m)
+shuffled false true true true true = refl
+shuffled false true true true false = refl
+shuffled false true true false m = sym (or-false m)
+shuffled false true false n m = rw (or-false m)
+shuffled false false true true true = refl
+shuffled false false true true false = refl
+shuffled false false true false m = sym (or-false m)
+shuffled false false false n m = sym (or-false m)
+
+module _ (r j : ℕ) (h : r < 8) (l : j < 8) where
+  bits-after : (p : Point) (rs : List (List ℕ)) → Firm p
+      → changeBit r j (run p rs) ≡ (changeBit r j p && noneOf (clears r) (history p rs) || cameAfter (changes r j) (clears r) (history p rs))
+  unfolding run history noneOf cameAfter
+  bits-after p [] f = sym (or-false (changeBit r j p && true) ∙ and-true (changeBit r j p))
+  bits-after p (bs ∷ rs) f =
+      let t : Happening = happening p bs in
+      bits-after (t .after) rs (firm-after p bs f)
+      ∙ rw (step-bit r j h l p bs f)
+      (shuffled (clears r t) (changeBit r j p) (changes r j t) (noneOf (clears r) (history (t .after) rs)) (cameAfter (changes r j) (clears r) (history (t .after) rs)))
+
+pub change-bits-by-past : ChangeBitsByPast
+change-bits-by-past nine collisions octets given rs r j h l =
+    let p : Point = start nine collisions octets in
+    let z : changeBit r j p ≡ false = rw (getD-replicate {A = ℕ} 8 r 0 0 h) (has-none j) in
+    bits-after r j h l p rs (firm-start nine collisions octets given) ∙ rw z

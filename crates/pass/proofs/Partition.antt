@@ -1,0 +1,207 @@
+-- Demand 3 for a port's partition: after any list of records from power-up a port is partitioned exactly if its past since the last clearing event struck it.
+-- The repeater's own proofs (Past and Events there) go from events to standings; here each record is tied to the event that it is to a port. Assumes nothing.
+--   moves             == one record moves a port's standing as its event says
+--   partition-by-past == demand 3
+use Prim.Native.Nat.{ℕ, _<_}
+use mathlib.Core.Path.{_≡_, refl, sym, ap, _∙_}
+use mathlib.Core.Bool.{Bool, true, false, cond, not, _&&_, _||_, and-not-self, true≢false}
+use mathlib.Core.List.{List, [], _∷_, _++_, map}
+use native.Mathlib.Omega.{arith}
+use lib.Dec.{eqb, lit<, lit≤}
+use lib.ListN.{getD, replicate}
+use Rattle.ports.specs.Sets.{has}
+use Rattle.record.specs.declared.Asked.{Asked}
+use Rattle.record.specs.declared.Asked.the-variants as ask
+use Rattle.record.specs.Refusals.{recordOf}
+use Rattle.repeater.specs.declared.port.Port.{Port}
+use Rattle.repeater.specs.declared.commands.Setting.{Setting}
+use Rattle.repeater.specs.declared.repeater.Repeater.{Repeater}
+use Rattle.repeater.specs.declared.repeater.Those.the-variants.{Partitioned}
+use Rattle.repeater.specs.Repeater.{setTo, gotOf, tickedAll, pulsedAll, burstOf, among, enabledOf, partitionedOf}
+use Rattle.repeater.specs.Port.{noPort}
+use Rattle.repeater.specs.Reset.{powerUp}
+use Rattle.repeater.specs.History.{Event, collided, neither, cleared, Standing, connected, partitioned, afterEvent, since, Struck, long, many, isPartitioned, struck}
+use Rattle.repeater.specs.Events.{standingOf, standingAt, eventOf, followedEvent, burstEvent, setEvent}
+use Rattle.repeater.proofs.RepeaterLaws.{those-has}
+use Rattle.repeater.proofs.Past.{Keeps, told-exactly}
+use Rattle.repeater.proofs.Events.{burst-moves, tick-moves, pulse-moves, get-moves, set-moves, reset-moves, up-connected}
+use Rattle.host.specs.declared.Host.{Host}
+use Rattle.host.specs.declared.Register.{Register}
+use Rattle.host.specs.declared.Register.the-variants as reg
+use Rattle.attributes.specs.declared.Attributes.{Attributes}
+use Rattle.himib.specs.declared.core.Core.{Core}
+use Rattle.himib.specs.declared.step.Chip.{Chip}
+use Rattle.himib.specs.Bursts.{wired, burstCore, burstOn}
+use Rattle.himib.specs.Chip.{moved}
+use Rattle.himib.specs.Access.{cReadOf, dReadOf, dWriteOf, obeyed, seen, selectedBy}
+use Rattle.himib.specs.Step.{actOn, taken, stepOf}
+use Rattle.pass.specs.Runs.{Exactly, Point, Happening, happening, history, run, start, kindOf, ifBurst, repeaterAt, partitionedAt}
+use Rattle.pass.specs.Pass.{eventAt, PartitionByPast}
+use Rattle.pass.specs.Examples.{noAddress, burstRecord, pulseRecord, cWriteRecord, dWriteRecord, resetRecord, up}
+use Rattle.pass.proofs.Computing.{step-computes}
+use Rattle.pass.proofs.Accesses.{after-write, after-read}
+use Rattle.pass.proofs.Enabled.{enabledIn, enabled-at, enabled-bursted, enabled-ticked, enabled-pulsed, enabled-got, enabled-set}
+
+-- AT THE BOUNDARIES
+
+-- From power-up the records leave port i partitioned or not, and this is whether its past since the last clearing event struck it.
+abbrev Both : List (List ℕ) → ℕ → Bool → Type 0
+Both rs i b = (partitionedAt (run up rs) i ≡ b) × (struck (since (map (eventAt i) (history up rs))) ≡ b)
+
+-- n bursts on which TP0 and TP1, whose links pass, collide
+abbrev crowded : ℕ → List (List ℕ)
+crowded n = replicate 4 (pulseRecord 0b11) ++ replicate n (burstRecord 0b11 0 600 0 0 100 300 noAddress)
+
+-- AUI alone with its collision signal, for x bit times
+abbrev signalled : ℕ → List (List ℕ)
+signalled x = burstRecord 0b100000000 0b00100 2000 0 0 100 x noAddress ∷ []
+
+-- TP0 alone, for d bit times
+abbrev alone : ℕ → List (List ℕ)
+alone d = burstRecord 0b01 0 d 0 0 0 0 noAddress ∷ []
+
+-- S is selected, and TP0 disabled through it
+abbrev disabling : List (List ℕ)
+disabling = cWriteRecord 0b11111110 ∷ dWriteRecord 0b00100000 ∷ []
+
+at-boundaries : Both (crowded 31) 0 false
+    × Both (crowded 32) 0 true
+    × Both (signalled 1024) 8 false
+    × Both (signalled 1025) 8 true
+    × Both (crowded 32 ++ alone 512) 0 true
+    × Both (crowded 32 ++ alone 513) 0 false
+    × Both (crowded 32 ++ disabling) 0 false
+    × Both (crowded 32 ++ disabling) 1 true
+    × Both (crowded 32 ++ (resetRecord ∷ [])) 1 false
+unfolding step-computes run history happening eventAt eventOf followedEvent burstEvent kindOf ifBurst
+at-boundaries = ((refl, refl), (refl, refl), (refl, refl), (refl, refl), (refl, refl), (refl, refl), (refl, refl), (refl, refl), (refl, refl))
+
+-- the two ways of being struck
+struck-by-32 : Struck (since (map (eventAt 0) (history up (crowded 32))))
+unfolding step-computes history happening eventAt eventOf followedEvent burstEvent kindOf ifBurst
+struck-by-32 = many (replicate 4 neither) (replicate 32 (collided 300)) [] (lit≤ tt) refl
+
+struck-by-1025 : Struck (since (map (eventAt 8) (history up (signalled 1025))))
+unfolding step-computes history happening eventAt eventOf followedEvent burstEvent kindOf ifBurst
+struck-by-1025 = long [] [] 1025 (lit< tt)
+
+-- ONE RECORD
+
+-- what is neither leaves the standing
+stays : (s : Standing) → s ≡ afterEvent s neither
+stays (connected n) = refl
+stays partitioned = refl
+
+-- a record's event to port i, by the repeater before and after it
+abbrev eventFor : ℕ → Asked → Repeater → Repeater → Event
+eventFor i a r q =
+    cond (eqb (kindOf a) 8 || (has (enabledOf r) i && not (has (enabledOf q) i))) cleared
+    (ifBurst neither (λ b. burstEvent r (wired b) i) a)
+
+-- what any record but a reset and a burst is
+abbrev otherwise : ℕ → Event → Repeater → Repeater → Event
+otherwise i e r q = cond (has (enabledOf r) i && not (has (enabledOf q) i)) cleared e
+
+abbrev Moves : ℕ → Repeater → Repeater → Event → Type 0
+Moves i r q e = standingAt q i ≡ afterEvent (standingAt r i) e
+
+-- a read leaves the repeater alone
+seen-same : (x : Register) (c : Core) → c .repeater ≡ seen x c .repeater
+unfolding seen
+seen-same reg.Unlisted c = refl
+seen-same reg.TransmitCollisions c = refl
+seen-same reg.TotalOctets c = refl
+seen-same reg.Version c = refl
+seen-same reg.SetPort c = refl
+seen-same reg.GetPort c = refl
+seen-same (reg.Change r) c = refl
+seen-same (reg.Enable r) c = refl
+seen-same (reg.Counter p r) c = refl
+seen-same (reg.Address p) c = refl
+
+read-same : (c : Core) (nine : List Attributes) (h : Host) → c .repeater ≡ dReadOf c nine h .core .repeater
+read-same c nine h = after-read (λ d v. c .repeater ≡ d .repeater) c nine h (λ k. refl) (λ v. seen-same (selectedBy h) c)
+
+module _ (i : ℕ) (l : i < 16) where
+  -- nobody is disabled
+  stood : (r q : Repeater) (e : Event) → enabledIn q i ≡ enabledIn r i → Moves i r q e → Moves i r q (otherwise i e r q)
+  stood r q e k h = rw (enabled-at r i l, enabled-at q i l, k, and-not-self (enabledIn r i)) h
+
+  same : (r : Repeater) → Moves i r r (otherwise i neither r r)
+  same r = stood r r neither refl (stays (standingAt r i))
+
+  set-stood : (s : Setting) (r : Repeater) → Moves i r (setTo s r) (otherwise i neither r (setTo s r))
+  unfolding setEvent
+  set-stood s r = rw (enabled-at r i l, enabled-at (setTo s r) i l, enabled-set s r i) (set-moves s r i)
+
+  write-stood : (c : Core) (h : Host) (b : ℕ) → Moves i (c .repeater) (dWriteOf c h b .core .repeater) (otherwise i neither (c .repeater) (dWriteOf c h b .core .repeater))
+  unfolding obeyed moved
+  write-stood c h b =
+      let r : Repeater = c .repeater in
+      after-write (λ d. Moves i r (d .repeater) (otherwise i neither r (d .repeater))) c b (same r) (λ g s. set-stood s r)
+      (λ g q. stood r (gotOf q r .repeater) neither (enabled-got q r i) (get-moves q r i))
+      (λ k. same r)
+      h
+
+  taken-moves : (a : Asked) (source : List ℕ) (s : Chip) (h : Host)
+      → Moves i (s .core .repeater) (taken a source s h .chip .core .repeater) (eventFor i a (s .core .repeater) (taken a source s h .chip .core .repeater))
+  unfolding taken actOn moved burstOn burstCore cReadOf kindOf ifBurst
+  taken-moves (ask.Burst b) source s h =
+      let r : Repeater = s .core .repeater in
+      stood r (burstOf r (wired b) .repeater) (burstEvent r (wired b) i) (enabled-bursted r (wired b) i) (burst-moves r (wired b) i)
+  taken-moves (ask.Pulse m) source s h =
+      let r : Repeater = s .core .repeater in
+      stood r (pulsedAll r m) neither (enabled-pulsed r m i) (pulse-moves r m i)
+  taken-moves ask.Tick source s h =
+      let r : Repeater = s .core .repeater in
+      stood r (tickedAll r) neither (enabled-ticked r i) (tick-moves r i)
+  taken-moves (ask.WriteC b) source s h = same (s .core .repeater)
+  taken-moves (ask.WriteD b) source s h = write-stood (s .core) h b
+  taken-moves ask.ReadC source s h = same (s .core .repeater)
+  taken-moves ask.ReadD source s h = rw (← read-same (s .core) (s .attributes) h) (same (s .core .repeater))
+  taken-moves ask.Reset source s h = reset-moves (s .core .repeater) i
+  taken-moves (ask.Refused k) source s h = same (s .core .repeater)
+
+  pub moves : (p : Point) (bs : List ℕ) → Moves i (repeaterAt p) (repeaterAt (happening p bs .after)) (eventAt i (happening p bs))
+  unfolding happening stepOf eventAt
+  moves p bs = taken-moves (recordOf bs .asked) (recordOf bs .source) (p .chip) (p .host)
+
+  -- ALL RECORDS
+
+  keeps : Keeps (λ (p : Point). Unit) (λ p. standingAt (repeaterAt p) i) (λ p bs. happening p bs .after) (λ p bs. eventAt i (happening p bs)) run (λ p rs. map (eventAt i) (history p rs))
+  unfolding run history
+  keeps = record {
+    after-none = λ p. refl;
+    after-more = λ p r rs. refl;
+    events-none = λ p. refl;
+    events-more = λ p r rs. refl;
+    sound = λ p r h. tt;
+    moves = λ p r h. moves p r;
+  }
+
+standing-test : (p : Port) → isPartitioned (standingOf p) ≡ p .partitioned
+standing-test p = go (p .partitioned) refl
+  where
+    go : (b : Bool) → p .partitioned ≡ b → isPartitioned (standingOf p) ≡ p .partitioned
+    go true h = rw h
+    go false h = rw h
+
+is-partitioned : (s : Standing) → isPartitioned s ≡ true → s ≡ partitioned
+is-partitioned (connected n) h = absurd (true≢false (sym h))
+is-partitioned partitioned h = refl
+
+test-at : (r : Repeater) (i : ℕ) → i < 16 → has (partitionedOf r) i ≡ isPartitioned (standingAt r i)
+unfolding among
+test-at r i h = those-has Partitioned (r .ports) i h ∙ sym (standing-test (getD (r .ports) i noPort))
+
+pub partition-by-past : PartitionByPast
+partition-by-past nine collisions octets rs i l =
+    let m : i < 16 = omega arith in
+    let p : Point = run (start nine collisions octets) rs in
+    let t =
+    told-exactly (λ (p : Point). Unit) (λ p. standingAt (repeaterAt p) i) (λ p bs. happening p bs .after) (λ p bs. eventAt i (happening p bs)) run
+    (λ p rs. map (eventAt i) (history p rs)) (keeps i m) (start nine collisions octets) rs tt (up-connected i) in
+    record {
+      there = λ h. t .forth (is-partitioned (standingAt (repeaterAt p) i) (sym (test-at (repeaterAt p) i m) ∙ h));
+      back = λ k. test-at (repeaterAt p) i m ∙ ap isPartitioned (t .back k);
+    }
