@@ -1,0 +1,2 @@
+-- A block of records answered.
+pub mod Block

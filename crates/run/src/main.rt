@@ -1,0 +1,168 @@
+// The run program: reads records from standard input, has each whole block answered, and writes the lines. Everything that matters is in the library below it.
+// An optional argument names a start file with counters and addresses.
+ghost use Prim.Native.Nat.{_+_, _≤_, _<_};
+ghost use mathlib.Core.Path.{_≡_};
+ghost use lib.ListN.{length};
+use himib::step::Chip;
+use host::Host;
+
+// Where the run stands: the chip, the host's record and the next record's number.
+struct State {
+    chip: Chip,
+    host: Host,
+    number: u64,
+}
+
+// After one reading: the state, the bytes of a record that is not whole yet, and whether to go on.
+struct Turn {
+    state: State,
+    have: usize,
+    going: bool,
+}
+
+// Moves n bytes from place at on to the front.
+fn shift(buf: &mut [u8], at: usize, n: usize)
+    requires { ⌜ at + n ≤ length (now buf) ⌝ }
+{
+    for i in 0..n {
+        buf[i] = buf[at + i];
+    }
+}
+
+// Reads once behind the bytes that are kept, and tells how many there are then.
+fn fill(buf: &mut [u8], have: usize) -> usize
+    requires { ⌜ have ≤ length (now buf) ⌝ }
+    ensures { λ r. ⌜ (have ≤ r) × (r ≤ length (now (buf .exit))) ⌝ }
+{
+    let rest = &mut buf[have..];
+    let got = libc::read(0, rest);
+    have + io::count(got, rest)
+}
+
+// The last piece, where there is one that is not whole: it is a record too.
+fn finish(state: State, piece: &[u8], out: &mut [u8])
+    requires { ⌜ length (now out) ≡ 65536 ⌝ }
+{
+    if piece.len() == 0 {
+        return;
+    }
+    let chip = state.chip;
+    let record = state.host;
+    let s = chip.step(record, piece);
+    let said = s.answer;
+    let n = answer::put_line(out, 0, state.number, said);
+    if n <= out.len() {
+        io::write_all(1, &out[0..n]);
+    }
+}
+
+// One reading, its answers and one writing. The end of the input ends it, and so does an output that is closed.
+fn one_turn(state: State, have: usize, buf: &mut [u8], out: &mut [u8]) -> Turn
+    requires { ⌜ have < 32 ⌝ }
+    requires { ⌜ length (now buf) ≡ 65536 ⌝ }
+    requires { ⌜ length (now out) ≡ 65536 ⌝ }
+    ensures { λ r. ⌜ r .have < 32 ⌝ }
+{
+    let total = fill(buf, have);
+    if total == have {
+        finish(state, &buf[0..have], out);
+        return Turn {
+            state: state,
+            have: 0,
+            going: false,
+        };
+    }
+    let chip = state.chip;
+    let core = chip.core;
+    let nine = chip.attributes;
+    let record = state.host;
+    let b = block::answer_block(core, nine, record, state.number, &buf[0..total], out);
+    let at = b.at;
+    let used = b.used;
+    let after = b.core;
+    let credited = b.attributes;
+    let altered = b.host;
+    let left = total - at;
+    shift(buf, at, left);
+    let going = io::write_all(1, &out[0..used]);
+    Turn {
+        state: State {
+            chip: Chip {
+                core: after,
+                attributes: credited,
+            },
+            host: altered,
+            number: b.number,
+        },
+        have: left,
+        going: going,
+    }
+}
+
+// A proved loop has to end, so the readings are counted down from a number that no run uses up.
+fn pump(state: State, buf: &mut [u8], out: &mut [u8])
+    requires { ⌜ length (now buf) ≡ 65536 ⌝ }
+    requires { ⌜ length (now out) ≡ 65536 ⌝ }
+{
+    let mut turns = u64::MAX;
+    let mut s = state;
+    let mut have: usize = 0;
+    let mut going = true;
+    while turns > 0 && going {
+        let t = one_turn(s, have, buf, out);
+        let next = t.state;
+        s = next;
+        have = t.have;
+        going = t.going;
+        turns -= 1;
+    }
+}
+
+// Runs from a chip at power-up.
+fn run_from(chip: Chip) {
+    let mut buf = io::large_buffer();
+    let mut out = io::large_buffer();
+    let record = Host::power_up();
+    pump(
+        State {
+            chip: chip,
+            host: record,
+            number: 1,
+        },
+        &mut buf,
+        &mut out,
+    );
+}
+
+// Runs with the counters and addresses of the start file that the first argument names.
+fn run_with() {
+    let mut path = io::buffer();
+    let n = os::arg(1, &mut path);
+    let fd = os::open_read(&path[..n]);
+    if fd < 0 {
+        os::fail(b"run: the start file cannot be opened");
+        return;
+    }
+    let mut bytes = io::buffer();
+    let got = io::read_full(fd, &mut bytes);
+    let started = start::start_chip(&bytes[..got]);
+    if started.fits {
+        run_from(started.chip);
+        return;
+    }
+    io::write_all(2, b"run: the start file does not have 530 bytes\n");
+}
+
+fn main() {
+    let words = os::arg_count();
+    if words < 2 {
+        let started = start::start_chip(&[]);
+        run_from(started.chip);
+        return;
+    }
+    if words == 2 {
+        run_with();
+        return;
+    }
+    io::write_all(2, b"run: at most one argument, the name of a start file\n");
+}

@@ -1,0 +1,2 @@
+-- The chip that a start file describes.
+pub mod Start
