@@ -1,0 +1,630 @@
+"""Drives the proved model of one IMR+ repeater (Am79C981) with its HIMIB (Am79C987) from a test harness.
+
+    import roverivet
+    with roverivet.Chip() as chip:
+        for _ in range(4):
+            chip.pulse('TP0+TP1')
+        chip.burst('TP0', d=1000, n=64)          # Answer: rep, data to TP1 and AUI
+        chip.read_counter('TP0', 'Readable Frames')
+
+A refused record raises Refused, with document 01's number and the reason found in the record. A chip is for
+one thread at a time. Nothing here models the chip: the answers are the program's. What stands here is the record's layout, the names
+of ports, registers and commands, and the refusals, for their reasons.
+
+Standard library only. Uses target/bin/run of the repository that this file stands in, or the program
+that the environment variable ROVERIVET_RUN names.
+"""
+
+import os
+import re
+import select
+import shutil
+import struct
+import subprocess
+import tempfile
+import time
+import weakref
+from pathlib import Path
+from typing import NamedTuple
+
+# ---- names
+
+PORTS = ('TP0', 'TP1', 'TP2', 'TP3', 'TP4', 'TP5', 'TP6', 'TP7', 'AUI')
+KINDS = ('', 'burst', 'pulse', 'tick', 'c-write', 'd-write', 'c-read', 'd-read', 'reset')
+BURST, PULSE, TICK, C_WRITE, D_WRITE, C_READ, D_READ, RESET = range(1, 9)
+FLAGS = ('fcs-bad', 'rate-error', 'collision-signal', 'loopback-missing', 'sqe-test')
+COLLISION_SIGNAL = 1 << FLAGS.index('collision-signal')
+ATTRIBUTES = ('Readable Frames', 'Readable Octets', 'FCS Errors', 'Alignment Errors', 'Frames Too Long',
+              'Short Events', 'Runts', 'Collisions', 'Late Events', 'Very Long Events',
+              'Data Rate Mismatches', 'Auto Partitions', 'Source Address Changes')
+CHANGES = {0: 'TP partition', 1: 'AUI partition', 2: 'TP link', 3: 'AUI loopback error', 4: 'SQE Test',
+           6: 'TP source address', 7: 'AUI source address'}
+TP_CHANGES = (0, 2, 6)
+BANKS = (16, 17, 18, 19, 20, 21, 22, 23, 31)
+ADDRESS = 14
+S, G = (0, 30), (0, 31)
+
+
+class Register(NamedTuple):
+    name: str
+    size: int
+    access: str
+
+
+def _registers():
+    table = {(0, 12): Register('Transmit Collisions', 4, 'r'), (0, 13): Register('Total Octets', 4, 'r'),
+             (0, 28): Register('Version', 1, 'r'), S: Register('S', 1, 'w'), G: Register('G', 1, 'rw')}
+    for place, name in CHANGES.items():
+        table[1, place] = Register(name + ' change', 1, 'r')
+        table[2, place] = Register(name + ' interrupt enable', 1, 'rw')
+    for port, bank in zip(PORTS, BANKS):
+        for place, name in enumerate(ATTRIBUTES):
+            table[bank, place] = Register(f'{name} of {port}', 4, 'r')
+        table[bank, ADDRESS] = Register(f'Last Source Address of {port}', 6, 'rw')
+    return table
+
+
+def _commands():
+    table = {0x1F: ('set', 'alternate partition algorithm for AUI'),
+             0x10: ('set', 'alternate partition algorithm for TP'),
+             0x2F: ('set', 'disable AUI'), 0x3F: ('set', 'enable AUI'),
+             0x8F: ('get', 'AUI status, clearing B, S and L'), 0x8B: ('get', 'AUI status, clearing S and L'),
+             0x8D: ('get', 'AUI status, clearing B'), 0x89: ('get', 'AUI status, clearing nothing'),
+             0x80: ('get', 'TP partition'), 0xA0: ('get', 'TP bit rate errors, clearing them'),
+             0xD0: ('get', 'TP link'), 0xF0: ('get', 'MJLP, clearing it'), 0xFF: ('get', 'version')}
+    for top, words in ((0x20, 'disable TP{}'), (0x30, 'enable TP{}'), (0x40, 'link test off for TP{}'),
+                       (0x50, 'link test on for TP{}')):
+        for port in range(8):
+            table[top + port] = ('set', words.format(port))
+    return table
+
+
+REGISTERS = _registers()
+COMMANDS = _commands()
+UNLISTED = Register('an unlisted register', 1, '')
+
+# ---- sets of ports
+
+
+def ports_of(mask):
+    """The names of a mask's ports, in the order of their bits; bits above AUI have no name."""
+    return tuple(name for bit, name in enumerate(PORTS) if mask >> bit & 1)
+
+
+def mask_of(ports):
+    """The mask of 'TP0+TP1', 'tp0-3+aui', 'none', an iterable of names, or a number."""
+    if isinstance(ports, int):
+        return ports
+    if not isinstance(ports, str):
+        ports = '+'.join(ports) or 'none'
+    if ports.lower() == 'none':
+        return 0
+    mask = 0
+    for part in ports.split('+'):
+        named = re.fullmatch(r'(?:tp([0-7])(?:-(?:tp)?([0-7]))?|(aui))', part, re.ASCII | re.IGNORECASE)
+        if not named:
+            raise ValueError(f'{part!r} is no port: expected tp0 to tp7, a range as tp0-3, aui or none')
+        first, last, aui = named.groups()
+        bits = (8,) if aui else range(int(first), int(last or first) + 1)
+        if not bits:
+            raise ValueError(f'{part!r} runs backwards: expected the lower port first')
+        for bit in bits:
+            if mask >> bit & 1:
+                raise ValueError(f'{PORTS[bit].lower()} is named twice')
+            mask |= 1 << bit
+    return mask
+
+
+def address_of(address):
+    """Six octets from '02:00:00:00:00:01' or from six bytes."""
+    if isinstance(address, str):
+        if not re.fullmatch(r'[0-9a-fA-F]{2}([:-][0-9a-fA-F]{2}){5}', address):
+            raise ValueError(f'{address!r} is no address: expected six hex octets as 02:00:00:00:00:01')
+        return bytes.fromhex(address.replace(':', '').replace('-', ''))
+    if len(address) != 6:
+        raise ValueError(f'an address has six octets, not {len(address)}')
+    return bytes(address)
+
+
+# ---- records
+
+SIZE = 32
+LAYOUT = struct.Struct('<BBHIIBBHII6sH')
+
+
+class Record(NamedTuple):
+    """One record's fields. `rest` and `end` are bytes 14-15 and 30-31, which are zero in a good record."""
+    kind: int
+    flags: int = 0
+    mask: int = 0
+    d: int = 0
+    n: int = 0
+    k: int = 0
+    byte: int = 0
+    rest: int = 0
+    c: int = 0
+    x: int = 0
+    sa: bytes = bytes(6)
+    end: int = 0
+
+    def pack(self):
+        try:
+            return LAYOUT.pack(*self)
+        except struct.error as error:
+            raise ValueError(f'a field does not fit in its bytes: {error}') from None
+
+    @classmethod
+    def unpack(cls, piece):
+        return cls._make(LAYOUT.unpack(piece))
+
+
+USED = {BURST: ('flags', 'mask', 'd', 'n', 'k', 'c', 'x', 'sa'), PULSE: ('mask',),
+        C_WRITE: ('byte',), D_WRITE: ('byte',)}
+FIELDS = {'flags': 'flags', 'mask': 'a mask', 'd': 'a duration', 'n': 'octets', 'k': 'dribble bits',
+          'byte': 'a written byte', 'rest': 'something in bytes 14 and 15', 'c': 'a start of collision',
+          'x': 'a length of collision', 'sa': 'a source address', 'end': 'something in bytes 30 and 31'}
+
+# ---- refusals
+
+REFUSALS = {1: 'a burst without activity', 2: 'a number out of range', 3: 'a port that is not there',
+            4: 'an unlisted command', 5: 'an unlisted register', 6: 'the wrong direction for the register',
+            7: 'a C write that selects neither P nor R', 8: 'a malformed record',
+            9: 'a piece that is not 32 bytes long', 10: 'an octet check about too many frames'}
+
+
+def refusal(piece, selected=None):
+    """(number, reason) that document 01 turns a piece away with, the first in the paper's order, or None.
+
+    `selected` is (P, R); without it only what the record shows by itself is judged. It serves to give a
+    reason, never to answer in the program's place.
+    """
+    if len(piece) != SIZE:
+        return 9, f'{len(piece)} byte{"s" * (len(piece) != 1)} where a record has {SIZE}'
+    record = Record.unpack(piece)
+    found = _malformed(record) or _out_of_range(record)
+    if not found and selected and record.kind in (D_WRITE, D_READ):
+        found = _register_refusal(record, selected)
+    return found
+
+
+def _malformed(record):
+    if not 1 <= record.kind <= 8:
+        return 8, f'unknown kind {record.kind}'
+    name = KINDS[record.kind]
+    if record.kind == BURST and record.flags >> 5:
+        return 8, f'burst with a flag bit above 4 (flags {record.flags:02x})'
+    for field, words in FIELDS.items():
+        if field not in USED.get(record.kind, ()) and getattr(record, field) not in (0, bytes(6)):
+            return 8, f'{name} with {words}'
+    return None
+
+
+def _out_of_range(r):
+    if r.kind == BURST and r.mask >> 9:
+        return 3, f'burst with a mask bit above 8 (mask {r.mask:04x})'
+    if r.kind == PULSE and r.mask >> 8:
+        return 3, f'pulse with a mask bit above 7 (mask {r.mask:04x})'
+    if r.kind == C_WRITE and r.byte >> 5 not in (0, 7):
+        return 7, f'C write of {r.byte:02x}, whose top three bits are {r.byte >> 5:03b}'
+    if r.kind != BURST:
+        return None
+    if not 1 <= r.d <= 1_000_000:
+        return 2, f'duration {r.d}, not 1 to 1,000,000'
+    if r.k > 7:
+        return 2, f'{r.k} dribble bits, more than 7'
+    if 8 * r.n + r.k > r.d:
+        return 2, f'{r.n} octets and {r.k} bits do not fit in {r.d} bit times'
+    if r.c + r.x > r.d:
+        return 2, f'the collision ends at {r.c + r.x}, after the burst ({r.d})'
+    if not r.mask and not r.flags & COLLISION_SIGNAL:
+        return 1, 'burst with no active port and no collision signal'
+    return None
+
+
+def _register_refusal(record, selected):
+    bank, place = selected
+    register = REGISTERS.get(selected)
+    if not register:
+        return 5, f'P {bank} R {place} is not listed'
+    reading = record.kind == D_READ
+    if ('r' if reading else 'w') not in register.access:
+        return 6, f'{register.name} (P {bank} R {place}) is {"write" if reading else "read"}-only'
+    if not reading and selected in (S, G) and record.byte not in COMMANDS:
+        return 4, f'{record.byte:02x} is no listed command'
+    return None
+
+
+class Refused(Exception):
+    """The program turned a record away: document 01's number, and the reason found in the record."""
+
+    def __init__(self, number, reason):
+        super().__init__(number, reason)
+        self.number, self.reason = number, reason
+
+    def __str__(self):
+        return f'refused {self.number}: {self.reason}'
+
+
+# ---- answers
+
+LINE = re.compile(r'([1-9][0-9]*) (?:(rep|jam|nil) ([0-9a-f]{3})|(val) ([0-9a-f]{2})|(ref) ([0-9]+)|(ok))',
+                  re.ASCII)
+
+
+class Answer(NamedTuple):
+    """One printed line. `value` is the output mask, the byte read or the refusal's number, else 0."""
+    number: int
+    word: str
+    value: int
+
+    @property
+    def outputs(self):
+        return ports_of(self.value) if self.word in ('rep', 'jam', 'nil') else ()
+
+
+def answer_of(line):
+    found = LINE.fullmatch(line)
+    if not found:
+        raise ValueError(f'the program printed {line!r}, which is no answer')
+    number, word, outputs, val, byte, ref, refused, ok = found.groups()
+    if word:
+        return Answer(int(number), word, int(outputs, 16))
+    if val:
+        return Answer(int(number), val, int(byte, 16))
+    return Answer(int(number), ref or ok, int(refused or 0))
+
+
+# ---- the program
+
+HERE = Path(__file__).resolve().parent.parent.parent
+PROGRAM = HERE / 'target' / 'bin' / 'run'
+START_SIZE = 530
+
+
+class Missing(Exception):
+    """The program is not there, or this machine has nothing to start it with."""
+
+
+class Ended(Exception):
+    """The program ended, fell silent or printed something that is no answer."""
+
+
+def command():
+    """The words that start the program: ROVERIVET_RUN's, or target/bin/run under its toolchain's loader."""
+    named = os.environ.get('ROVERIVET_RUN')
+    if named:
+        if not os.access(named, os.X_OK) or os.path.isdir(named):
+            raise Missing(f'ROVERIVET_RUN names {named}, which is no program')
+        return [os.path.abspath(named)]
+    if not os.access(PROGRAM, os.X_OK):
+        raise Missing('the proved program target/bin/run is not built: ./roverivet build')
+    return loader() + [str(PROGRAM)]
+
+
+def loader():
+    """What a program of the toolchain is started through: emulator where needed, loader, C library.
+
+    They stand in the folder of the toolchain that `rt` belongs to; RATTLE_HOME names another. Without
+    one an x86-64 machine starts the program by itself.
+    """
+    machine, rt = os.uname().machine, shutil.which('rt')
+    home = os.environ.get('RATTLE_HOME') or (rt and Path(os.path.realpath(rt)).parents[1])
+    if home:
+        tools = Path(home) / 'on' / machine / 'toolchain'
+        start, emulator = tools / 'lib' / 'ld-linux-x86-64.so.2', tools / 'bin' / 'qemu-x86_64'
+        if start.exists():
+            under = [str(emulator)] if os.access(emulator, os.X_OK) else []
+            return under + [str(start), '--library-path', str(tools / 'lib')]
+    if machine == 'x86_64':
+        return []
+    raise Missing(f'programs are for x86-64, this machine is {machine}, and there is no rt on the path with an emulator')
+
+
+def _environment():
+    return {name: value for name, value in os.environ.items() if not name.startswith('QEMU_')}
+
+
+def _start_words(start):
+    """(words, file): the argument for a start file given as a path or as its 530 bytes."""
+    if start is None:
+        return [], None
+    if isinstance(start, (bytes, bytearray)):
+        if len(start) != START_SIZE:
+            raise ValueError(f'a start file has {START_SIZE} bytes, not {len(start)}')
+        file = tempfile.TemporaryFile()
+        file.write(start)
+        file.flush()
+        return [f'/dev/fd/{file.fileno()}'], file
+    size = os.stat(start).st_size
+    if size != START_SIZE:
+        raise ValueError(f'{start}: a start file has {START_SIZE} bytes, not {size}')
+    return [os.path.abspath(start)], None
+
+
+def launch(start=None, **pipes):
+    """Starts the program as a process; `pipes` go to subprocess.Popen."""
+    words, file = _start_words(start)
+    try:
+        return subprocess.Popen(command() + words, env=_environment(), bufsize=0,
+                                pass_fds=[file.fileno()] if file else (), **pipes)
+    finally:
+        if file:
+            file.close()
+
+
+def answers(data, start=None):
+    """The program's answers to a whole trace, as a list of Answer."""
+    with launch(start, stdin=subprocess.PIPE, stdout=subprocess.PIPE) as process:
+        printed = process.communicate(data)[0]
+    if process.returncode:
+        raise Ended(f'the program ended with status {process.returncode}')
+    try:
+        found = [answer_of(line) for line in printed.decode('ascii').split('\n')[:-1]]
+    except ValueError as error:
+        raise Ended(str(error)) from None
+    expected = -(-len(data) // SIZE)
+    if [a.number for a in found] != list(range(1, expected + 1)) or not printed.endswith(b'\n' if data else b''):
+        raise Ended(f'the program gave {len(found)} answers to {expected} records, or not in their order')
+    return found
+
+
+_running = weakref.WeakSet()
+
+
+def _close_in_child():
+    """A fork keeps no hold on a program, so that the program ends with its harness."""
+    for one in list(_running):
+        one.let_go()
+
+
+os.register_at_fork(after_in_child=_close_in_child)
+
+
+class Running:
+    """The program, started and kept. It ends when its standard input closes, thus with its harness too."""
+
+    BATCH = 1000  # records written before their answers are read: fewer bytes than a pipe holds
+
+    def __init__(self, start=None, patience=60):
+        self.process = launch(start, stdin=subprocess.PIPE, stdout=subprocess.PIPE)
+        self.patience, self.asked, self.came, self.between = patience, 0, b'', True
+        _running.add(self)
+
+    def ask(self, data):
+        """The answers to some whole records, in their order."""
+        if not self.between:
+            raise Ended('an earlier call has failed or was cut short, so answers would be taken for others')
+        found, self.between = [], False
+        for at in range(0, len(data), SIZE * self.BATCH):
+            batch = data[at:at + SIZE * self.BATCH]
+            self._write(batch)
+            found += [self._answer() for _ in range(-(-len(batch) // SIZE))]
+        self.between = True
+        return found
+
+    def finish(self, piece=b''):
+        """Sends a last piece, of any length, closes the input and gives the answers that still came."""
+        self._write(piece)
+        self.process.stdin.close()
+        found = [self._answer() for _ in range(-(-len(piece) // SIZE))]
+        self.close()
+        return found
+
+    def _write(self, batch):
+        try:
+            while batch:
+                batch = batch[self.process.stdin.write(batch):]
+        except (OSError, ValueError):
+            raise Ended(f'the program has ended{self._status()}') from None
+
+    def _answer(self):
+        latest = time.monotonic() + self.patience
+        ready = select.poll()
+        ready.register(self.process.stdout, select.POLLIN)
+        while b'\n' not in self.came:
+            left = latest - time.monotonic()
+            if left <= 0 or not ready.poll(1000 * left):
+                raise Ended(f'the program gave no answer to record {self.asked + 1} in {self.patience} s')
+            more = os.read(self.process.stdout.fileno(), 65536)
+            if not more:
+                raise Ended(f'the program ended before its answer to record {self.asked + 1}{self._status()}')
+            self.came += more
+        line, self.came = self.came.split(b'\n', 1)
+        try:
+            answer = answer_of(line.decode('ascii', 'replace'))
+        except ValueError as error:
+            raise Ended(str(error)) from None
+        self.asked += 1
+        if answer.number != self.asked:
+            raise Ended(f'the program answered record {answer.number} when record {self.asked} was due')
+        return answer
+
+    def _status(self):
+        try:
+            return f', status {self.process.wait(1)}'
+        except subprocess.TimeoutExpired:
+            return ''
+
+    def _close_pipes(self):
+        for pipe in (self.process.stdin, self.process.stdout):
+            try:
+                pipe.close()
+            except OSError:
+                pass
+
+    def let_go(self):
+        """Closes this process's ends of the pipes and waits for nobody."""
+        self._close_pipes()
+        self.process.returncode = self.process.returncode or 0
+
+    def close(self):
+        """Ends the program: closes its input and, if that is not enough, kills it."""
+        self._close_pipes()
+        try:
+            self.process.wait(5)
+        except subprocess.TimeoutExpired:
+            self.process.kill()
+            self.process.wait()
+        _running.discard(self)
+
+    def __enter__(self):
+        return self
+
+    def __exit__(self, *_):
+        self.close()
+
+
+# ---- the chip
+
+
+class Status(NamedTuple):
+    """What a C read gave."""
+    interrupt: bool
+    interface_error: bool
+
+
+class Chip:
+    """One chip pair at power-up, its counters and addresses 0 or those of `start` (a path or 530 bytes)."""
+
+    def __init__(self, start=None, patience=60):
+        self.program = Running(start, patience)
+        self.selected = (0, 0)
+
+    # records
+
+    def send(self, piece):
+        """One piece of bytes as it is. Gives its Answer, or raises Refused."""
+        if len(piece) != SIZE:
+            raise ValueError(f'a record has {SIZE} bytes, not {len(piece)}: the records after it would be cut elsewhere')
+        answer = self.program.ask(piece)[0]
+        if answer.word == 'ref':
+            due = refusal(piece, self.selected) or (0, '')
+            reason = due[1] if due[0] == answer.value else REFUSALS.get(answer.value, 'a number that document 01 has not')
+            raise Refused(answer.value, reason)
+        return answer
+
+    def burst(self, ports, d, n=0, k=0, c=0, x=0, sa=bytes(6), fcs_bad=False, rate_error=False,
+              collision_signal=False, loopback_missing=False, sqe_test=False):
+        """Activity from idle to idle. Gives the Answer: its word, its output mask, its `outputs` by name."""
+        given = (fcs_bad, rate_error, collision_signal, loopback_missing, sqe_test)
+        flags = sum(1 << bit for bit, flag in enumerate(given) if flag)
+        return self.send(Record(BURST, flags, mask_of(ports), d, n, k, c=c, x=x, sa=address_of(sa)).pack())
+
+    def pulse(self, ports):
+        self.send(Record(PULSE, mask=mask_of(ports)).pack())
+
+    def tick(self, times=1):
+        """`times` milliseconds."""
+        for answer in self.program.ask(Record(TICK).pack() * times):
+            if answer.word != 'ok':
+                raise Ended(f'a tick was answered {answer.word}')
+
+    def c_write(self, byte):
+        self.send(Record(C_WRITE, byte=byte).pack())
+        bank, place = self.selected
+        self.selected = (bank, byte & 31) if byte >> 5 else (byte & 31, place)
+
+    def d_write(self, byte):
+        self.send(Record(D_WRITE, byte=byte).pack())
+
+    def c_read(self):
+        value = self.send(Record(C_READ).pack()).value
+        return Status(bool(value & 0x80), bool(value & 0x40))
+
+    def d_read(self):
+        return self.send(Record(D_READ).pack()).value
+
+    def reset(self):
+        self.send(Record(RESET).pack())
+        self.selected = (0, 0)
+
+    # what firmware makes of them
+
+    def select(self, bank, place):
+        """P and R: two C writes, which also restart the byte sequence."""
+        if not (0 <= bank < 32 and 0 <= place < 32):
+            raise ValueError(f'P {bank} R {place}: both are 0 to 31')
+        self.c_write(bank)
+        self.c_write(0xE0 | place)
+
+    def read(self, bank, place):
+        """A whole register, from its first byte, as bytes."""
+        self.select(bank, place)
+        return bytes(self.d_read() for _ in range(REGISTERS.get((bank, place), UNLISTED).size))
+
+    def write(self, bank, place, data):
+        self.select(bank, place)
+        for byte in data:
+            self.d_write(byte)
+
+    def set(self, byte):
+        """A Set command, through S."""
+        self.write(*S, [byte])
+
+    def get(self, byte):
+        """A Get command, through G, and the byte that it gives."""
+        self.write(*G, [byte])
+        return self.d_read()
+
+    def read_counter(self, port, attribute):
+        return int.from_bytes(self.read(_bank(port), _place(ATTRIBUTES, attribute)), 'little')
+
+    def transmit_collisions(self):
+        return int.from_bytes(self.read(0, 12), 'little')
+
+    def total_octets(self):
+        return int.from_bytes(self.read(0, 13), 'little')
+
+    def read_address(self, port):
+        return self.read(_bank(port), ADDRESS)
+
+    def write_address(self, port, address):
+        self.write(_bank(port), ADDRESS, address_of(address))
+
+    def enable_interrupts(self, enables):
+        """{change: byte}: `enables` maps R 0-4, 6, 7 or their names in CHANGES to the bits to enable."""
+        for change, byte in enables.items():
+            self.write(2, _change(change), [byte])
+
+    def changes(self):
+        """Reads, and thereby clears, all change bits. Gives {name of the change: its ports}."""
+        found = {}
+        for place, name in CHANGES.items():
+            byte = self.read(1, place)[0]
+            ports = ports_of(byte) if place in TP_CHANGES else ('AUI',) if byte else ()
+            if ports:
+                found[name] = ports
+        return found
+
+    def partitioned(self):
+        """The ports that are partitioned, by the Gets that clear nothing."""
+        connected = self.get(0x80) | (self.get(0x89) >> 7) << 8
+        return ports_of(~connected & 0x1FF)
+
+    def link_passing(self):
+        """The TP ports whose link passes."""
+        return ports_of(self.get(0xD0))
+
+    def close(self):
+        self.program.close()
+
+    def __enter__(self):
+        return self
+
+    def __exit__(self, *_):
+        self.close()
+
+
+def _place(names, name):
+    for place, one in enumerate(names):
+        if one.lower() == name.lower():
+            return place
+    raise ValueError(f'{name!r} is none of {", ".join(names)}')
+
+
+def _bank(port):
+    return BANKS[_place(PORTS, port)]
+
+
+def _change(change):
+    return change if isinstance(change, int) else list(CHANGES)[_place(CHANGES.values(), change)]

@@ -1,0 +1,349 @@
+#!/usr/bin/env -S python3 -B
+"""Holds README.md, docs/MAP.md and docs/PASS.md to the repository.
+
+    tests/documents.py               every name is there, promises and edits match, README's commands print what it says
+    tests/documents.py --functions   prints the public functions as docs/PASS.md has to list them
+
+In docs/MAP.md and docs/PASS.md whatever stands in backquotes is a name, in one of these forms:
+
+    record/specs/Record: place, kinds     definitions, theorems, functions or types in a file of a crate
+    record/must-fail/order_2_and_1        an edit that the check must refuse
+    traces/sample                         a trace of traces/LIST
+    tests/compare.py                      any file or folder, from the top
+"""
+
+import os
+import re
+import subprocess
+import sys
+
+from checks import Checks, TOP, roverivet_command
+from tutorial import steps
+
+import roverivet
+from tools import build
+
+MAP, PASS, README = TOP / 'docs' / 'MAP.md', TOP / 'docs' / 'PASS.md', TOP / 'README.md'
+STATEMENTS = TOP / 'crates' / 'pass' / 'specs' / 'Pass.antt'
+KEYS = ['demand', 'sentence', 'section', 'statement', 'theorem', 'instance', 'edits', 'says not']
+UNFINISHED = 'PENDING'
+SYSTEM = ('/dev', '/proc', '/usr/bin/env', '/bin/sh')
+IN_CRATE = re.compile(r'(\w+)/(specs|proofs|src)/([\w/]+): (.+)')
+EDIT = re.compile(r'(\w+)/must-fail/(\w+)')
+ABSOLUTE = re.compile(r'(?:^|[\s"\'`(=:!])(/[A-Za-z][\w.-]*(?:/[\w.-]+)*)')
+HOST = re.compile(r'https?://(?!www\.w3\.org/)[\w.-]+')
+
+
+def shown(path):
+    return str(path.relative_to(TOP))
+
+
+def same(checks, found, expected, what):
+    """Two lists of names are the same; only what differs is told."""
+    lacking, extra = sorted(set(expected) - set(found)), sorted(set(found) - set(expected))
+    checks.check(sorted(found) == sorted(expected), what, f'not there: {", ".join(lacking) or "-"}', f'too much: {", ".join(extra) or "-"}')
+
+
+# ---- names
+
+
+def lines_of(page):
+    """(number, line) outside blocks of code."""
+    inside = False
+    for number, line in enumerate(page.read_text().splitlines(), 1):
+        if line.startswith('```'):
+            inside = not inside
+        elif not inside:
+            yield number, line
+
+
+def names_in(text):
+    return re.findall(r'`([^`]+)`', text)
+
+
+def is_there(path, name):
+    """Whether a file has a definition, theorem, function or type of this name."""
+    word = re.escape(name)
+    if path.suffix == '.rt':
+        pattern = rf'\b(?:fn|struct|enum|const) {word}\b'
+    else:
+        pattern = rf'^\s*(?:(?:abbrev|unfoldable|pub) )*{word} :|^\s*(?:pub )?(?:record|data) {word}\b'
+    return re.search(pattern, path.read_text(), re.MULTILINE) is not None
+
+
+def traces():
+    rows = (TOP / 'traces' / 'LIST').read_text().splitlines()
+    return [row.split()[0] for row in rows if row.strip() and not row.startswith('#')]
+
+
+def missing(name):
+    """Why a name names nothing, or None."""
+    found = IN_CRATE.fullmatch(name)
+    if found:
+        crate, folder, file, words = found.groups()
+        path = TOP / 'crates' / crate / folder / (file + ('.rt' if folder == 'src' else '.antt'))
+        if not path.is_file():
+            return f'there is no {shown(path)}'
+        absent = [word for word in words.split(', ') if not is_there(path, word)]
+        return f'{shown(path)} has no {", ".join(absent)}' if absent else None
+    found = EDIT.fullmatch(name)
+    if found:
+        path = TOP / 'crates' / found[1] / 'must-fail' / f'{found[2]}.edit'
+        return None if path.is_file() else f'there is no {shown(path)}'
+    if name.startswith('traces/') and '.' not in name and name != 'traces/LIST':
+        return None if name.removeprefix('traces/') in traces() else 'traces/LIST does not name it'
+    return None if (TOP / name).exists() else 'there is no such file'
+
+
+def named(checks):
+    tried = 0
+    for page in (MAP, PASS):
+        for number, line in lines_of(page):
+            if UNFINISHED in line:
+                continue
+            for name in names_in(line):
+                tried += 1
+                reason = missing(name)
+                checks.check(reason is None, f'{shown(page)}:{number}: {name}', reason)
+    print(f'{tried} names in docs/MAP.md and docs/PASS.md')
+
+
+def finished(checks):
+    for page in [README, TOP / 'crates.txt', *sorted((TOP / 'docs').rglob('*.md'))]:
+        places = [str(n) for n, line in enumerate(page.read_text().splitlines(), 1) if UNFINISHED in line]
+        checks.check(not places, f'{shown(page)} is finished', f'{UNFINISHED} in lines {", ".join(places)}')
+
+
+# ---- promises
+
+
+def entries(checks):
+    """docs/PASS.md's entries: [(id, title, {key: value})]."""
+    found, current = [], None
+    for number, line in lines_of(PASS):
+        head = re.fullmatch(r'### (\w+) (.+)', line)
+        item = re.fullmatch(r'- ([a-z ]+): (.+)', line)
+        if head:
+            current = (head[1], head[2], {})
+            found.append(current)
+        elif line.startswith('#'):
+            current = None
+        elif current and item:
+            checks.check(item[1] not in current[2], f'docs/PASS.md:{number}: {item[1]} stands once in {current[0]}')
+            current[2][item[1]] = item[2]
+        elif current and line.startswith('  ') and current[2]:
+            current[2][list(current[2])[-1]] += ' ' + line.strip()
+        else:
+            checks.check(not current or not line.strip(), f'docs/PASS.md:{number}: a line of the form of {current and current[0]}')
+    return found
+
+
+def line_of(path, name):
+    """The line on which a name is defined, from 1."""
+    pattern = rf'\s*(?:(?:abbrev|unfoldable|pub) )*{re.escape(name)} :.*|.*\bfn {re.escape(name)}\b.*'
+    lines = path.read_text().splitlines()
+    return next((n for n, line in enumerate(lines, 1) if re.fullmatch(pattern, line)), 0)
+
+
+def file_of(name):
+    """The file and the first word of a name in a crate, or None."""
+    found = IN_CRATE.fullmatch(name)
+    if not found:
+        return None
+    crate, folder, file, words = found.groups()
+    path = TOP / 'crates' / crate / folder / (file + ('.rt' if folder == 'src' else '.antt'))
+    return (path, words.split(', ')) if path.is_file() else None
+
+
+def promises(checks):
+    """Each statement of Pass.antt has its entries and one theorem, and an instance above it."""
+    listed = entries(checks)
+    ids = [entry[0] for entry in listed]
+    checks.equal(sorted(set(ids)), sorted(ids), 'docs/PASS.md: each id stands once')
+    stated, proofs = [], {}
+    for number, title, fields in listed:
+        where = f'docs/PASS.md: {number} {title}'
+        checks.equal(list(fields), KEYS, f'{where}: the lines, in their order')
+        if list(fields) != KEYS or UNFINISHED in fields['theorem']:
+            continue
+        statement, theorem, instance = (file_of((names_in(fields[key]) or [''])[0]) for key in ('statement', 'theorem', 'instance'))
+        if statement and statement[0] == STATEMENTS and theorem:
+            kind, parts = statement[1][0], statement[1][1:]
+            stated.append((kind, *parts))
+            proofs.setdefault(kind, set()).add(theorem[0])
+            text = theorem[0].read_text()
+            checks.check(re.search(rf'^pub {re.escape(theorem[1][0])} : {kind}$', text, re.MULTILINE),
+                         f'{where}: the theorem has the statement {kind}')
+        if theorem and instance and theorem[0] == instance[0]:
+            checks.check(0 < line_of(instance[0], instance[1][0]) < line_of(theorem[0], theorem[1][0]),
+                         f'{where}: the instance stands above the theorem')
+    kinds = re.findall(r'^abbrev pub (\w+) : Type [01]$', STATEMENTS.read_text(), re.MULTILINE)
+    same(checks, {kind for kind, *_ in stated}, kinds, 'docs/PASS.md has the statements of Pass.antt')
+    checks.equal(len(set(stated)), len(stated), 'docs/PASS.md: no part of a statement has two entries')
+    checks.check(all(len(files) == 1 for files in proofs.values()), 'docs/PASS.md: each statement has one theorem')
+    print(f'{len(listed)} promises, {len(kinds)} statements of Pass.antt')
+
+
+def edits(checks):
+    """The edits of the crate pass are those of docs/PASS.md; every edit says first what it breaks."""
+    there = {path.stem for path in (TOP / 'crates' / 'pass' / 'must-fail').glob('*.edit')}
+    told = {found[2] for _, line in lines_of(PASS) for name in names_in(line)
+            if (found := EDIT.fullmatch(name)) and found[1] == 'pass'}
+    same(checks, told, there, 'docs/PASS.md has the edits of the crate pass')
+    every = sorted(TOP.glob('crates/*/must-fail/*.edit'))
+    for path in every:
+        first = path.read_text().splitlines()[0]
+        checks.check(first.startswith('# ') and len(first) > 20, f'{shown(path)}: the first line says what it breaks')
+    print(f'{len(every)} edits, {len(there)} of them of the crate pass')
+
+
+# ---- public functions
+
+
+def functions():
+    """(file, function, contract) of every public function of the crates that are no programs."""
+    for path in sorted(TOP.glob('crates/*/src/**/*.rt')):
+        if (path.parents[0] / 'main.rt').is_file():
+            continue
+        text = path.read_text()
+        for found in re.finditer(r'^ *pub (?:extern "C" )?fn (\w+)(.*?)\{$', text, re.MULTILINE | re.DOTALL):
+            yield path, found[1], found[2]
+
+
+def is_equation(contract):
+    told = re.findall(r'ensures \{ λ (\w+)\. ⌜ (.*) ⌝ \}', contract)
+    return len(told) == 1 and told[0][1].startswith(f'{told[0][0]} ≡ ')
+
+
+def is_other(contract):
+    return not is_equation(contract)
+
+
+LISTS = (('Public functions', is_equation), ('Functions with another contract', is_other))
+
+
+def function_lines(wanted):
+    """The lines 'crate/src/file: one, two' for the functions that are wanted."""
+    by_file = {}
+    for path, name, contract in functions():
+        if wanted(contract):
+            by_file.setdefault(path, []).append(name)
+    for path, names in by_file.items():
+        crate, *rest = path.relative_to(TOP / 'crates').with_suffix('').parts
+        yield f'{crate}/{"/".join(rest)}: {", ".join(names)}'
+
+
+def listed_functions(heading):
+    """The names in the section of docs/PASS.md with this heading."""
+    section = PASS.read_text().split(f'\n## {heading}\n', 1)
+    body = section[1].split('\n## ', 1)[0] if len(section) == 2 else ''
+    rows = [line for line in body.splitlines() if line.startswith('- `')]
+    return [names_in(row)[0] for row in rows]
+
+
+def public(checks):
+    every = list(functions())
+    for path, name, contract in every:
+        checks.check('ensures' in contract, f'{shown(path)}: {name} states its answer')
+        checks.check('requires' not in contract, f'{shown(path)}: {name} asks for nothing')
+    for heading, wanted in LISTS:
+        same(checks, listed_functions(heading), list(function_lines(wanted)), f'docs/PASS.md: {heading}')
+    print(f'{len(every)} public functions')
+
+
+# ---- crates, README
+
+
+def layers():
+    """{crate: what it stands on} by crates.txt."""
+    rows = (row.partition(':') for row in (TOP / 'crates.txt').read_text().splitlines() if row.strip() and not row.startswith('#'))
+    return {name.strip(): needs.split() for name, _, needs in rows}
+
+
+def crates(checks):
+    below = layers()
+    for name in below:
+        checks.check((TOP / 'crates' / name / 'src').is_dir(), f'crates.txt: {name} is there')
+    checks.equal(below.get('repeater'), ['ports'], 'crates.txt: the repeater works by itself')
+    rows = re.findall(r'^\| `(\w+)` \|', README.read_text().split('\n## Layout\n', 1)[-1], re.MULTILINE)
+    same(checks, rows, list(below), 'README.md: the layout has the crates of crates.txt')
+    for row in (TOP / 'tests' / 'GATE').read_text().splitlines():
+        if row.strip() and not row.startswith('#'):
+            checks.check((TOP / 'tests' / row).is_file(), f'tests/GATE: {row} is there')
+    print(f'{len(below)} crates')
+
+
+def exists(checks, where, words):
+    """A command of README's can be started, and the files that it names are there."""
+    checks.check(os.access(TOP / words[0], os.X_OK), f'{where}: {words[0]} can be started')
+    for word, before in zip(words[1:], words):
+        if '/' in word and before != '-o' and not word.startswith('target/'):
+            checks.check((TOP / word).exists(), f'{where}: {word} is there')
+
+
+def commands(checks):
+    """README's commands are there, and show every verb."""
+    page = README.read_text()
+    for block in re.findall(r'^```sh\n(.*?)^```$', page, re.DOTALL | re.MULTILINE):
+        for line in block.splitlines():
+            exists(checks, 'README.md', line.split())
+    told = [(line, words, output) for line, kind, words, output in steps(page) if kind == 'command']
+    for line, words, _ in told:
+        exists(checks, f'README.md:{line}', words.rpartition('| ')[2].split())
+    verbs = re.findall(r'^    (\w+) ', roverivet_command('--help').stdout.decode(), re.MULTILINE)
+    spoken = {verb for _, words, _ in told for verb in re.findall(r'\./roverivet (\w+)', words)}
+    same(checks, spoken, verbs, 'README.md shows every verb')
+    return told
+
+
+def outputs(checks, told):
+    """README's commands print what it says."""
+    try:
+        build.ensure()
+    except roverivet.Missing as error:
+        checks.check(False, 'there is a program to run', str(error))
+        return
+    (TOP / 'target').mkdir(exist_ok=True)
+    for line, words, output in told:
+        ran = subprocess.run(['sh', '-c', words], cwd=TOP, stdin=subprocess.DEVNULL, capture_output=True, text=True, timeout=3600)
+        checks.equal((ran.stdout, ran.returncode), (output, 0), f'README.md:{line}: {words}')
+    print(f'{len(told)} commands of README.md run and compared')
+
+
+# ---- paths
+
+
+def files():
+    for folder, names, leaves in os.walk(TOP):
+        names[:] = [name for name in names if name not in ('target', '.git', '__pycache__')]
+        yield from (TOP / folder / leaf for leaf in leaves)
+
+
+def paths(checks):
+    """No file names a path of some machine, nor a host of some network."""
+    tried = 0
+    for path in sorted(files()):
+        text = path.read_bytes().decode(errors='replace')
+        tried += 1
+        for number, line in enumerate(text.splitlines(), 1):
+            absolute = [found for found in ABSOLUTE.findall(line) if not found.startswith(SYSTEM)]
+            for word in absolute + HOST.findall(line):
+                checks.check(False, f'{shown(path)}:{number}: {word} is of some machine or network')
+    checks.check(tried > 0, 'files were looked through')
+    print(f'{tried} files looked through for paths of some machine')
+
+
+def main(words):
+    if words == ['--functions']:
+        for heading, wanted in LISTS:
+            print(f'## {heading}', *(f'- `{row}`' for row in function_lines(wanted)), sep='\n', end='\n\n')
+        return 0
+    checks = Checks()
+    for part in (named, finished, promises, edits, public, crates, paths):
+        part(checks)
+    outputs(checks, commands(checks))
+    return checks.end()
+
+
+if __name__ == '__main__':
+    sys.exit(main(sys.argv[1:]))

@@ -1,0 +1,208 @@
+#!/usr/bin/env -S python3 -B
+"""The verbs of ./roverivet: what they say, and exit statuses that mean something."""
+
+import os
+import subprocess
+import sys
+import tempfile
+from pathlib import Path
+
+from checks import Checks, TOP, need_program, roverivet_command
+
+VERBS = ('build', 'asm', 'dis', 'run', 'explain', 'talk', 'view')
+
+SAMPLE = b'''1 ok
+2 ok
+3 ok
+4 ok
+5 rep 102
+6 ok
+7 ok
+8 val 01
+9 jam 103
+10 ref 8
+'''
+
+EXPLAINED = '''1-3 pulse tp0+tp1: ok
+4 pulse tp0+tp1: ok; link passes: TP0 TP1
+5 burst tp0 d=1000 n=64: one heard (TP0), data to TP1 AUI; Readable Frames +1 TP0
+6 c-write P=16: selects Readable Frames of TP0 (P 16 R 0)
+7 c-write R=0: selects Readable Frames of TP0 (P 16 R 0)
+8 d-read: 01, byte 1 of 4 of Readable Frames of TP0
+9 burst tp0+tp1 d=600 c=100 x=300: two heard, jam to TP0 TP1 AUI; Collisions +1 TP0 TP1; Transmit Collisions +1
+10 refused 8: tick with a mask
+'''
+
+# records and their words, for kinds that the sample has not
+WORDS = [
+    ('pulse tp0 x4\nburst aui d=70000 n=64 rate-error loopback-missing',
+     '5 burst aui d=70000 n=64 rate-error loopback-missing: one heard (AUI), jam to TP0; Readable Frames +1 AUI; '
+     'Very Long Events +1 AUI; Data Rate Mismatches +1 AUI'),
+    ('burst none d=3000 c=600 x=1025 collision-signal',
+     '1 burst none d=3000 c=600 x=1025 collision-signal: one heard (AUI), jam to nobody; Collisions +1 AUI; '
+     'Late Events +1 AUI; Auto Partitions +1 AUI; now partitioned: AUI'),
+    ('burst tp5 d=600', '1 burst tp5 d=600: none heard, nothing goes out; link passes: TP5'),
+    ('c-write R=31\nd-write 80\nd-read', '3 d-read: ff, no TP port partitioned'),
+    ('c-write R=31\nd-write 27', '2 d-write 27: Set: disable TP7, through G: interface error; now disabled: TP7'),
+    ('c-write R=31\nd-write 27\nc-read', '3 c-read: 40, interface error'),
+    ('c-write R=30\nd-write 8b', '2 d-write 8b: Get: AUI status, clearing S and L, through S: interface error'),
+    ('pulse tp3 x4\nc-write P=1\nc-write R=2\nd-read', '7 d-read: 08, TP link change TP3, cleared now'),
+    ('c-write P=2\nc-write R=2\nd-write ff', '3 d-write ff: TP link interrupt enable = ff'),
+    ('c-write P=2\nc-write R=2\nd-write ff\npulse tp3 x4\nc-read', '8 c-read: 80, interrupt'),
+    ('c-write P=31\nc-write R=14\nd-write 0a x6', '8 d-write 0a: byte 6 of 6 of Last Source Address of AUI, which takes effect'),
+    ('c-write P=5', '1 c-write P=5: selects no listed register (P 5 R 0)'),
+    ('reset', '1 reset: reset'),
+    ('c-write R=30\nd-read', '2 refused 6: S (P 0 R 30) is write-only'),
+    ('d-read', '1 refused 5: P 0 R 0 is not listed'),
+    ('c-write 7f', '1 refused 7: C write of 7f, whose top three bits are 011'),
+    ('burst none d=7', '1 refused 1: burst with no active port and no collision signal'),
+    ('raw 010203', '1 refused 9: 3 bytes where a record has 32'),
+]
+
+
+def text(result):
+    return result.stdout.decode(), result.stderr.decode(), result.returncode
+
+
+def helps(checks):
+    for verb in VERBS:
+        shown = roverivet_command(verb, '--help')
+        checks.check(shown.returncode == 0 and shown.stdout.startswith(f'usage: roverivet {verb}'.encode()), f'{verb} --help')
+    whole = roverivet_command('--help')
+    checks.check(whole.returncode == 0 and all(f'    {verb} '.encode() in whole.stdout for verb in VERBS), '--help names all verbs')
+    for words in ((), ('bogus',), ('run', 'a', 'b'), ('view', 'traces/sample.txt'), ('talk', 'x'), ('run', '--bogus')):
+        wrong = roverivet_command(*words)
+        checks.check(wrong.returncode == 2 and b'usage:' in wrong.stderr, f'bad usage: {" ".join(words) or "no verb"}')
+    print(f'help of {len(VERBS)} verbs, bad usage')
+
+
+def runs(checks, folder):
+    binary = folder / 'sample.bin'
+    checks.equal(roverivet_command('asm', 'traces/sample.txt', '-o', str(binary)).returncode, 0, 'asm to a file')
+    for words, data in ((('traces/sample.txt',), None), ((str(binary),), None), (('-',), binary.read_bytes()), ((), binary.read_bytes()),
+                        (('--text',), (TOP / 'traces' / 'sample.txt').read_bytes()), (('--text', 'traces/sample.expected'), None)):
+        result = roverivet_command('run', *words, data=data)
+        if words[-1:] == ('traces/sample.expected',):
+            checks.check(result.returncode == 2 and result.stderr.startswith(b'roverivet: traces/sample.expected:3:1: expected burst'),
+                         'run --text of what is no trace')
+        else:
+            checks.equal((result.returncode, result.stdout, result.stderr), (0, SAMPLE, b''), f'run {" ".join(words)}')
+    elsewhere = roverivet_command('run', str(binary), cwd=folder)
+    checks.equal((elsewhere.returncode, elsewhere.stdout), (0, SAMPLE), 'run from another folder')
+    started = roverivet_command('run', '--start', 'traces/counter-wraps.start.txt', 'traces/counter-wraps.txt')
+    checks.check(started.returncode == 0 and b'\n7 val ff\n' in started.stdout, 'run with a start file as text')
+    start = folder / 'wraps.start'
+    roverivet_command('asm', '--start', 'traces/counter-wraps.start.txt', '-o', str(start))
+    checks.equal(start.stat().st_size, 530, 'asm of a start file')
+    checks.equal(roverivet_command('run', '--start', str(start), 'traces/counter-wraps.txt').stdout, started.stdout, 'run with a start file')
+    for verb in ('run', 'explain', 'view'):
+        more = ('-o', str(folder / 'x.svg')) if verb == 'view' else ()
+        checks.equal(text(roverivet_command(verb, 'nothing.bin', *more))[1:], ('roverivet: nothing.bin: No such file or directory\n', 2),
+                     f'{verb} of a file that is not there')
+        checks.equal(text(roverivet_command(verb, '--start', 'nothing.start', 'traces/sample.txt', *more))[1:],
+                     ('roverivet: nothing.start: No such file or directory\n', 2), f'{verb} with a start file that is not there')
+        checks.equal(text(roverivet_command(verb, '--start', str(binary), 'traces/sample.txt', *more))[1:],
+                     (f'roverivet: {binary}: a start file has 530 bytes, this has 320\n', 2), f'{verb} with a start file of another size')
+    print('run: text, binary, standard input, start files, files that are not there')
+
+
+def explains(checks):
+    checks.equal(text(roverivet_command('explain', 'traces/sample.txt')), (EXPLAINED, '', 0), 'explain the sample')
+    for records, due in WORDS:
+        words, said, status = text(roverivet_command('explain', '--text', data=records.encode()))
+        checks.equal((words.splitlines()[-1:], said, status), ([due], '', 0), f'explain {records.splitlines()[-1]}')
+    for row in (TOP / 'traces' / 'LIST').read_text().splitlines():
+        if not row.startswith(('#', 'registers', 'commands')):
+            name, start = row.split()[:2]
+            more = () if start == '-' else ('--start', f'traces/{start}')
+            result = roverivet_command('explain', *more, f'traces/{name}.txt')
+            checks.equal((result.returncode, result.stderr, b'FINDING' in result.stdout), (0, b'', False), f'explain {name}: no finding')
+    print(f'explain: the sample, {len(WORDS)} more, and no finding in any trace by hand')
+
+
+def talks(checks):
+    typed = b'pulse tp0 x4\n\n# a remark\nburst tp0\nburst tp0 d=600 n=64\nd-read\n'
+    told = ('1-3 pulse tp0: ok\n4 pulse tp0: ok; link passes: TP0\n4:10: expected d=, the duration of the burst\n'
+            '5 burst tp0 d=600 n=64: one heard (TP0), data to AUI; Readable Frames +1 TP0\n6 refused 5: P 0 R 0 is not listed\n')
+    checks.equal(text(roverivet_command('talk', data=typed)), (told, '', 0), 'talk')
+    keep = subprocess.Popen([sys.executable, str(TOP / 'roverivet'), 'talk'], stdin=subprocess.PIPE, stdout=subprocess.PIPE, bufsize=0)
+    for number, word in ((1, 'tick'), (2, 'reset'), (3, 'tick')):
+        keep.stdin.write(word.encode() + b'\n')
+        checks.check(keep.stdout.readline().startswith(f'{number} {word}: '.encode()), f'talk answers {word} at once')
+    keep.stdin.close()
+    checks.equal(keep.wait(20), 0, 'talk ends with its input')
+    keep.stdout.close()
+    print('talk: line by line, wrong lines told, ends with its input')
+
+
+def views(checks, folder):
+    for words, reason in ((('traces/sample.txt', '-o', 'x.png'), 'x.png: expected a name that ends in .svg or .html'),
+                          (('traces/sample.txt', '-o', str(folder / 'none' / 'x.svg')), f'{folder}/none/x.svg: No such file or directory'),
+                          (('traces/sample.txt', '--from', '20', '-o', str(folder / 'x.svg')), 'there is no record to show'),
+                          (('traces/sample.txt', '--from', '5', '--to', '4', '-o', str(folder / 'x.svg')),
+                           '--from 5 --to 4: expected record numbers from 1, the lower first'),
+                          (('--text', '-o', str(folder / 'x.svg')), 'more than 1500 columns: name a part of the trace with --from and --to')):
+        data = b'tick\npulse none\n' * 800 if words[0] == '--text' else None
+        checks.equal(text(roverivet_command('view', *words, data=data))[1:], (f'roverivet: {reason}\n', 2), f'view: {reason}')
+    print('view: what it does not take')
+
+
+LIAR = '''#!/usr/bin/env python3
+import os, sys
+os.dup2(os.open(os.devnull, os.O_WRONLY), 2)
+number = 0
+while len(piece := sys.stdin.buffer.read(32)) == 32:
+    number += 1
+    print({answer}, flush=True)
+'''
+
+
+def findings(checks, folder):
+    """Programs that are wrong: missing, lying, dying, printing something else."""
+    def with_program(script, *words, data):
+        path = folder / 'liar'
+        path.write_text(script)
+        path.chmod(0o755)
+        return text(roverivet_command(*words, data=data, env={**os.environ, 'ROVERIVET_RUN': str(path)}))
+
+    always_ok = LIAR.format(answer="number, 'ok'")
+    words, _, status = with_program(always_ok, 'explain', '--text', data=b'tick\ntick mask=1\nburst tp0 d=5\n')
+    checks.equal((words, status),
+                 ('1 tick: ok\n2 tick mask=001: answered ok 0; FINDING: document 01 refuses this with 8: tick with a mask\n'
+                  '3 burst tp0 d=5: answered ok 0; FINDING: document 01 accepts this and answers rep or jam or nil\n', 1), 'explain a liar')
+    words, _, status = with_program(LIAR.format(answer="number, 'ref 8'"), 'explain', '--text', data=b'tick\n')
+    checks.equal((words, status), ('1 tick: answered ref 8; FINDING: document 01 accepts this and answers ok\n', 1), 'explain a refuser')
+    for script, reason in ((LIAR.format(answer="'hello'"), "the program printed 'hello', which is no answer"),
+                           (LIAR.format(answer="number + 1, 'ok'"), 'the program answered record 2 when record 1 was due'),
+                           ('#!/bin/sh\nexit 7\n', 'the program ended before its answer to record 1, status 7')):
+        _, said, status = with_program(script, 'explain', '--text', data=b'tick\n')
+        checks.check(said.strip() in (f'roverivet: {reason}', 'roverivet: the program has ended, status 7') and status == 1,
+                     f'explain: {reason}', f'found {said} {status}')
+    checks.equal(with_program('#!/bin/sh\nexit 7\n', 'run', '--text', data=b'tick\n')[1:],
+                 ('roverivet: the program ended with status 7\n', 1), 'run a program that dies')
+    checks.equal(with_program('#!/bin/sh\ncat > /dev/null\n', 'run', '--text', data=b'tick\n')[1:],
+                 ('roverivet: the program gave 0 answers to 1 records\n', 1), 'run a program that is silent')
+    for verb in ('run', 'explain', 'build'):
+        more = () if verb == 'build' else ('traces/sample.txt',)
+        none = text(roverivet_command(verb, *more, env={**os.environ, 'ROVERIVET_RUN': str(folder / 'none')}))
+        checks.equal(none[1:], (f'roverivet: ROVERIVET_RUN names {folder}/none, which is no program\n', 3), f'{verb} without a program')
+    print('findings: programs that lie, die, are silent or are not there')
+
+
+def main():
+    need_program()
+    checks = Checks()
+    with tempfile.TemporaryDirectory() as name:
+        folder = Path(name)
+        helps(checks)
+        checks.equal(text(roverivet_command('build'))[0::2], ('ready: the program answers records\n', 0), 'build')
+        runs(checks, folder)
+        explains(checks)
+        talks(checks)
+        views(checks, folder)
+        findings(checks, folder)
+    return checks.end()
+
+
+if __name__ == '__main__':
+    sys.exit(main())

@@ -1,0 +1,1 @@
+"""What the command ./roverivet is made of."""
