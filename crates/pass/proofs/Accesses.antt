@@ -1,6 +1,6 @@
 -- What a D access can make of the core, as one case law for each: whatever holds of each of these cores holds after the access. Assumes nothing.
 --   after-write == after a D write: the core as it was, after a Set, after a Get, or with other enables
---   after-read  == after a D read, with its answer: the core as it was and a refusal, or the core after a read of the selected register and a byte
+--   after-read  == after a D read: the core as it was, or with a change register cleared; and whether register R was read
 use Prim.Native.Nat.{ℕ}
 use mathlib.Core.Bool.{Bool, true, false, cond, not, _&&_}
 use mathlib.Core.List.{List}
@@ -15,15 +15,14 @@ use Rattle.host.specs.declared.Host.{Host}
 use Rattle.host.specs.declared.Register.{Register}
 use Rattle.host.specs.declared.Register.the-variants as reg
 use Rattle.host.specs.Map.{sizeOf, readableReg, writableReg}
-use Rattle.host.specs.Sequence.{readByte}
-use Rattle.answer.specs.declared.Answer.{Answer}
-use Rattle.answer.specs.declared.Answer.the-variants.{Value, Refused}
 use Rattle.attributes.specs.declared.Attributes.{Attributes}
 use Rattle.himib.specs.declared.core.Core.{Core}
 use Rattle.himib.specs.declared.step.Acted.{Acted}
 use Rattle.himib.specs.Changes.{keptBits}
-use Rattle.himib.specs.Chip.{withEnables}
-use Rattle.himib.specs.Access.{turnedAway, selectedBy, valueOf, seen, obeyed, written, isListed, takesCommands, readOf, writeOf, dReadOf, dWriteOf}
+use Rattle.himib.specs.Chip.{withChanges, withEnables}
+use Rattle.himib.specs.Access.{turnedAway, selectedBy, seen, obeyed, written, isListed, takesCommands, readOf, writeOf, dReadOf, dWriteOf}
+use Rattle.pass.specs.Runs.{accepted}
+use Rattle.pass.specs.Pass.{isChange}
 
 -- whichever way a choice goes
 either : (P : Acted → Type 0) (b : Bool) (x y : Acted) → P x → P y → P (cond b x y)
@@ -60,12 +59,24 @@ module _ (P : Core → Type 0) (c : Core) (b : ℕ) (still : P c) (sets : (g : B
       (either Q (not (writableReg x)) (turnedAway c h 6) _ still
       (either Q (takesCommands x && not (isListed (commandOf b))) (turnedAway c h 4) (writeOf x c h b) still (after-written x)))
 
-module _ (P : Core → Answer → Type 0) (c : Core) (nine : List Attributes) (h : Host) where
-  pub after-read : ((k : ℕ) → P c (Refused k)) → ((v : ℕ) → P (seen (selectedBy h) c) (Value v)) → P (dReadOf c nine h .core) (dReadOf c nine h .answer)
-  unfolding dReadOf readOf
-  after-read away read =
-      let Q : Acted → Type 0 = λ t. P (t .core) (t .answer) in
+-- the core after a read of register x, and whether that was a read of change register R
+module _ (r : ℕ) (P : Core → Bool → Type 0) (c : Core) (still : P c false) (clears : (k : ℕ) → P (withChanges c (set (c .changes) k 0)) (eqb k r)) where
+  after-seen : (x : Register) → P (seen x c) (isChange r x)
+  unfolding seen
+  after-seen reg.Unlisted = still
+  after-seen reg.TransmitCollisions = still
+  after-seen reg.TotalOctets = still
+  after-seen reg.Version = still
+  after-seen reg.SetPort = still
+  after-seen reg.GetPort = still
+  after-seen (reg.Change k) = clears k
+  after-seen (reg.Enable k) = still
+  after-seen (reg.Counter p k) = still
+  after-seen (reg.Address p) = still
+
+  pub after-read : (nine : List Attributes) (h : Host) → P (dReadOf c nine h .core) (accepted (dReadOf c nine h .answer) && isChange r (selectedBy h))
+  unfolding dReadOf readOf accepted
+  after-read nine h =
       let x : Register = selectedBy h in
-      either Q (eqb (sizeOf x) 0) (turnedAway c h 5) _ (away 5)
-      (either Q (not (readableReg x)) (turnedAway c h 6) (readOf x c nine h) (away 6)
-      (read (readByte (sizeOf x) (valueOf c nine x) h .byte)))
+      let Q : Acted → Type 0 = λ t. P (t .core) (accepted (t .answer) && isChange r x) in
+      either Q (eqb (sizeOf x) 0) (turnedAway c h 5) _ still (either Q (not (readableReg x)) (turnedAway c h 6) (readOf x c nine h) still (after-seen x))

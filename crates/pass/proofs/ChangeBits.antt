@@ -1,59 +1,52 @@
 -- Demand 3 for the change bits: after any list of records from power-up a change bit is one exactly if its event came after the last accepted read of its register or
 -- reset. Assumes nothing.
+--   set-read-set, each-register == both sides computed on lists of records
 --   events-at         == the bits that `eventsOf` sets are those of the event, register by register
 --   step-bit          == one record clears a bit, or leaves it and adds its event
 --   bits-after        == the same along a list of records, from any bits at all
 --   change-bits-by-past == demand 3
-use Prim.Native.Nat.{ℕ, zero, suc, _+_, _*_, _/_, _%_, _^_, _<_}
+use Prim.Native.Nat.{ℕ, zero, suc, _+_, _*_, _/_, _%_, _<_}
 use mathlib.Core.Path.{_≡_, refl, sym, ap, _∙_}
-use mathlib.Core.Bool.{Bool, true, false, cond, not, _&&_, _||_, Bool·beq, and-true, and-false, or-false, true≢false}
+use mathlib.Core.Bool.{Bool, true, false, cond, not, _&&_, _||_, and-true, and-false, or-false}
 use mathlib.Core.List.{List, [], _∷_, _++_}
 use native.Mathlib.Omega.{arith}
-use borrow.Author.Tests.{eq-eqb, ne-eqb, eqb-true}
-use lib.Dec.{eqb, ltb, eqb·suc-suc, lit<}
+use borrow.Author.Tests.{ne-eqb}
+use lib.Dec.{eqb, eqb·suc-suc, lit<}
 use lib.ListN.{length, getD, set, replicate, length-set, getD-replicate}
 use lib.Bits.{bitOr, bitXor, differ, xor-step}
-use Rattle.ports.specs.Sets.{aui, has, setOf, without}
+use Rattle.ports.specs.Sets.{aui, has}
 use Rattle.ports.specs.Each.{each}
-use Rattle.ports.proofs.Sets.{has-none, has-or, has-mod, has-power, set-true}
-use Rattle.ports.proofs.Each.{each-length, each-at, set-keeps}
+use Rattle.ports.proofs.Sets.{has-none, has-or, has-mod, has-power}
+use Rattle.ports.proofs.Each.{each-length, each-at}
 use Rattle.record.specs.declared.Asked.{Asked}
 use Rattle.record.specs.declared.Asked.the-variants as ask
 use Rattle.record.specs.declared.Burst.{Burst}
 use Rattle.record.specs.Refusals.{recordOf}
-use Rattle.repeater.specs.declared.port.Port.{Port}
-use Rattle.repeater.specs.declared.burst.Burst as Wire
-use Rattle.repeater.specs.declared.burst.Heard.{Heard}
-use Rattle.repeater.specs.declared.burst.Heard.the-variants.{Nothing, One, More}
 use Rattle.repeater.specs.declared.burst.Hearing.{Hearing}
-use Rattle.repeater.specs.declared.burst.Effect.{Effect}
 use Rattle.repeater.specs.declared.repeater.Repeater.{Repeater}
 use Rattle.repeater.specs.declared.repeater.Bursted.{Bursted}
-use Rattle.repeater.specs.Burst.{hearingOf, effectOf}
+use Rattle.repeater.specs.Burst.{hearingOf}
 use Rattle.repeater.specs.Status.{marksOf}
 use Rattle.repeater.specs.Repeater.{setTo, gotOf, tickedAll, pulsedAll, followed, burstOf, partitionedOf, linkedOf}
-use Rattle.repeater.proofs.Heard.{one-heard}
 use Rattle.host.specs.declared.Host.{Host}
-use Rattle.host.specs.declared.Register.{Register}
-use Rattle.host.specs.declared.Register.the-variants as reg
 use Rattle.answer.specs.declared.Answer.{Answer}
-use Rattle.answer.specs.declared.Answer.the-variants.{Value, Refused}
 use Rattle.answer.specs.Answer.{outputsOf}
 use Rattle.attributes.specs.declared.Attributes.{Attributes}
-use Rattle.attributes.specs.Credits.{noAttributes, newcomer, changedOf, one, shareOf, creditsOf, counted, creditedWith, creditedAt}
+use Rattle.attributes.specs.Credits.{noAttributes, changedOf, creditedAt}
 use Rattle.himib.specs.declared.core.Core.{Core}
 use Rattle.himib.specs.declared.step.Chip.{Chip}
-use Rattle.himib.specs.declared.step.Acted.{Acted}
+use Rattle.himib.specs.declared.step.Stepped.{Stepped}
 use Rattle.himib.specs.Changes.{bit7, eventsOf, noted}
 use Rattle.himib.specs.Bursts.{wired, cutBy, burstCore, burstOn}
-use Rattle.himib.specs.Chip.{moved}
-use Rattle.himib.specs.Access.{cReadOf, dReadOf, dWriteOf, obeyed, seen, selectedBy}
-use Rattle.himib.specs.Step.{actOn, withAddress, readdressed, taken, stepOf}
+use Rattle.himib.specs.Chip.{moved, withChanges}
+use Rattle.himib.specs.Access.{cReadOf, obeyed, selectedBy}
+use Rattle.himib.specs.Step.{actOn, readdressed, taken, stepOf}
 use Rattle.pass.specs.Runs.{Point, Happening, happening, history, run, start, Given, kindOf, accepted, ifBurst}
 use Rattle.pass.specs.Pass.{changeBit, differs, changes, isChange, clears, noneOf, cameAfter, ChangeBitsByPast}
 use Rattle.pass.specs.Examples.{noAddress, burstRecord, pulseRecord, cWriteRecord, dReadRecord, resetRecord, attributesUp, up}
 use Rattle.pass.proofs.Computing.{step-computes}
 use Rattle.pass.proofs.Accesses.{after-write, after-read}
+use Rattle.pass.proofs.AddressCounter.{countedIn, Fits, readdressed-fits, readdressed-counted, credited-fits, credited-counted, heard-changed}
 
 -- AT ONE VALUE
 
@@ -182,10 +175,10 @@ events-at part link loopback sqe address (suc (suc (suc (suc (suc (suc (suc zero
 events-at part link loopback sqe address (suc (suc (suc (suc (suc (suc (suc (suc r)))))))) j h l = absurd (omega arith)
 
 -- two functions that are the same for the nine ports
-abbrev Alike : (ℕ → Bool) → (ℕ → Bool) → Type 0
-Alike f g = (i : ℕ) → i < 9 → f i ≡ g i
+abbrev Same : (ℕ → Bool) → (ℕ → Bool) → Type 0
+Same f g = (i : ℕ) → i < 9 → f i ≡ g i
 
-same-bit : (r j : ℕ) (p p' k k' a a' : ℕ → Bool) (l s : Bool) → j < 8 → Alike p p' → Alike k k' → Alike a a' → eventBit r j p k l s a ≡ eventBit r j p' k' l s a'
+same-bit : (r j : ℕ) (p p' k k' a a' : ℕ → Bool) (l s : Bool) → j < 8 → Same p p' → Same k k' → Same a a' → eventBit r j p k l s a ≡ eventBit r j p' k' l s a'
 unfolding eventBit
 same-bit r j p p' k k' a a' l s h u v w =
     rw (u j (omega arith), u aui (omega arith), v j (omega arith), w j (omega arith), w aui (omega arith))
@@ -194,17 +187,13 @@ abbrev nobody : ℕ → Bool
 nobody i = false
 
 -- nothing happened
-no-bit : (r j : ℕ) → r < 8 → eventBit r j nobody nobody false false nobody ≡ false
+no-choice : (b : Bool) → cond b false false ≡ false
+no-choice true = refl
+no-choice false = refl
+
+no-bit : (r j : ℕ) → eventBit r j nobody nobody false false nobody ≡ false
 unfolding eventBit
-no-bit zero j h = refl
-no-bit (suc zero) j h = and-false (eqb j 7)
-no-bit (suc (suc zero)) j h = refl
-no-bit (suc (suc (suc zero))) j h = and-false (eqb j 7)
-no-bit (suc (suc (suc (suc zero)))) j h = and-false (eqb j 7)
-no-bit (suc (suc (suc (suc (suc zero))))) j h = refl
-no-bit (suc (suc (suc (suc (suc (suc zero)))))) j h = refl
-no-bit (suc (suc (suc (suc (suc (suc (suc zero))))))) j h = and-false (eqb j 7)
-no-bit (suc (suc (suc (suc (suc (suc (suc (suc r)))))))) j h = absurd (omega arith)
+no-bit r j = simp (and-false, no-choice)
 
 -- a register that a read clears, and any other
 zeroed : (cs : List ℕ) (k r : ℕ) → getD (set cs k 0) r 0 ≡ cond (eqb k r) 0 (getD cs r 0)
@@ -227,6 +216,7 @@ unfolding noted
 noted-at es cs r j h =
     ap (λ (n : ℕ). has n j) (each-at (λ r c. bitOr c (getD es r 0)) cs r 0 0 h) ∙ has-or (getD cs r 0) (getD es r 0) j
 
+-- what moves the repeater adds its events to the bits
 moved-bit : (c : Core) (q : Repeater) (loopback sqe : Bool) (address r j : ℕ) → length (c .changes) ≡ 8 → r < 8 → j < 8
     → bitOf r j (moved c q loopback sqe address)
     ≡ (bitOf r j c || eventBit r j (has (bitXor (partitionedOf (c .repeater)) (partitionedOf q))) (has (bitXor (linkedOf (c .repeater)) (linkedOf q))) loopback sqe (has address))
@@ -236,108 +226,6 @@ moved-bit c q loopback sqe address r j n h l =
     let link = bitXor (linkedOf (c .repeater)) (linkedOf q) in
     noted-at (eventsOf part link loopback sqe address) (c .changes) r j (omega arith)
     ∙ ap (λ (b : Bool). bitOf r j c || b) (events-at part link loopback sqe address r j h l)
-
--- WHAT A RECORD MAKES OF COUNTER 12
-
--- Source Address Changes of port i
-abbrev pub addressCounter : List Attributes → ℕ → ℕ
-addressCounter nine i = getD (getD nine i noAttributes .counters) 12 0
-
--- the ports for which it moved
-abbrev countedIn : List Attributes → List Attributes → ℕ → Bool
-countedIn nine next i = not (eqb (addressCounter nine i) (addressCounter next i))
-
--- the nine counters are there, and fit
-pub record Fits (nine : List Attributes) : Type 0 where
-  pub ports : length nine ≡ 9
-  pub there : (i : ℕ) → i < 9 → 12 < length (getD nine i noAttributes .counters)
-  pub low : (i : ℕ) → i < 9 → addressCounter nine i < 2 ^ 32
-
--- an address that is written leaves every counter
-readdressed-counters : (p : ℕ) (bs : List ℕ) (nine : List Attributes) (i : ℕ) → getD (readdressed p bs nine) i noAttributes .counters ≡ getD nine i noAttributes .counters
-unfolding readdressed
-readdressed-counters p bs nine i = go (ltb p 9)
-  where
-    go : (b : Bool) → getD (cond b (set nine p (withAddress (getD nine p noAttributes) bs)) nine) i noAttributes .counters ≡ getD nine i noAttributes .counters
-    go true = set-keeps (λ (a : Attributes). a .counters) nine p i (withAddress (getD nine p noAttributes) bs) noAttributes refl
-    go false = refl
-
-readdressed-length : (p : ℕ) (bs : List ℕ) (nine : List Attributes) → length (readdressed p bs nine) ≡ length nine
-unfolding readdressed
-readdressed-length p bs nine = go (ltb p 9)
-  where
-    go : (b : Bool) → length (cond b (set nine p (withAddress (getD nine p noAttributes) bs)) nine) ≡ length nine
-    go true = length-set nine p (withAddress (getD nine p noAttributes) bs)
-    go false = refl
-
-readdressed-fits : (p : ℕ) (bs : List ℕ) (nine : List Attributes) → Fits nine → Fits (readdressed p bs nine)
-readdressed-fits p bs nine f = record {
-  ports = readdressed-length p bs nine ∙ f .ports;
-  there = λ i h. rw (readdressed-counters p bs nine i) (f .there i h);
-  low = λ i h. rw (readdressed-counters p bs nine i) (f .low i h);
-}
-
-same-counter : (n m : ℕ) → m ≡ n → not (eqb n m) ≡ false
-same-counter n m e = rw (eq-eqb n m (sym e))
-
-readdressed-counted : (p : ℕ) (bs : List ℕ) (nine : List Attributes) (i : ℕ) → countedIn nine (readdressed p bs nine) i ≡ false
-readdressed-counted p bs nine i =
-    same-counter (addressCounter nine i) (addressCounter (readdressed p bs nine) i) (ap (λ (cs : List ℕ). getD cs 12 0) (readdressed-counters p bs nine i))
-
--- a burst's credit
-module _ (g : Hearing) (f : Effect) (cut changed : ℕ) (b : Burst) (source : List ℕ) (i : ℕ) (a : Attributes) where
-  credited-length : length (creditedAt g f cut changed b source i a .counters) ≡ length (a .counters)
-  unfolding creditedAt creditedWith counted
-  credited-length = go (has (g .h) i || has cut i)
-    where
-      go : (t : Bool) → length (cond t (creditedWith (shareOf g f cut changed i) b source a) a .counters) ≡ length (a .counters)
-      go true = each-length (λ r c. (c + getD (creditsOf (shareOf g f cut changed i) b) r 0) % 2 ^ 32) (a .counters)
-      go false = refl
-
-  -- a port that the burst does not touch has no new address
-  credited-counter : 12 < length (a .counters) → (has changed i ≡ true → has (g .h) i ≡ true) → getD (a .counters) 12 0 < 2 ^ 32
-      → getD (creditedAt g f cut changed b source i a .counters) 12 0 ≡ (getD (a .counters) 12 0 + one (has changed i)) % 2 ^ 32
-  unfolding creditedAt creditedWith counted creditsOf shareOf
-  credited-counter k heard low = go (has (g .h) i) (has cut i) (has changed i) refl refl refl
-    where
-      n : ℕ
-      n = getD (a .counters) 12 0
-
-      credited : getD (counted (creditsOf (shareOf g f cut changed i) b) (a .counters)) 12 0 ≡ (n + one (has changed i)) % 2 ^ 32
-      credited = each-at (λ r c. (c + getD (creditsOf (shareOf g f cut changed i) b) r 0) % 2 ^ 32) (a .counters) 12 0 0 k
-
-      go : (x y z : Bool) → has (g .h) i ≡ x → has cut i ≡ y → has changed i ≡ z → getD (creditedAt g f cut changed b source i a .counters) 12 0 ≡ (n + one (has changed i)) % 2 ^ 32
-      go true y z p q r = rw p credited
-      go false true z p q r = rw (p, q) credited
-      go false false true p q r = absurd (true≢false (sym (heard r) ∙ p))
-      go false false false p q r = rw (p, q, r) (omega arith)
-
-module _ (g : Hearing) (f : Effect) (cut changed : ℕ) (b : Burst) (source : List ℕ) (nine : List Attributes) (fits : Fits nine)
-    (heard : (i : ℕ) → has changed i ≡ true → has (g .h) i ≡ true) where
-  abbrev after : List Attributes
-  after = each (creditedAt g f cut changed b source) nine
-
-  credited-at : (i : ℕ) → i < 9 → getD after i noAttributes ≡ creditedAt g f cut changed b source i (getD nine i noAttributes)
-  credited-at i h = each-at (creditedAt g f cut changed b source) nine i noAttributes noAttributes (omega (arith, fits .ports))
-
-  counter-after : (i : ℕ) → i < 9 → addressCounter after i ≡ (addressCounter nine i + one (has changed i)) % 2 ^ 32
-  counter-after i h =
-      rw (credited-at i h) (credited-counter g f cut changed b source i (getD nine i noAttributes) (fits .there i h) (heard i) (fits .low i h))
-
-  credited-fits : Fits after
-  credited-fits = record {
-    ports = each-length (creditedAt g f cut changed b source) nine ∙ fits .ports;
-    there = λ i h. rw (credited-at i h, credited-length g f cut changed b source i (getD nine i noAttributes)) (fits .there i h);
-    low = λ i h. rw (counter-after i h) (omega arith);
-  }
-
-  -- the counter moves exactly for the ports that have a new address
-  told : (n : ℕ) (z : Bool) → n < 2 ^ 32 → z ≡ not (eqb n ((n + one z) % 2 ^ 32))
-  told n true h = rw (ne-eqb n ((n + 1) % 2 ^ 32) (λ e. omega arith))
-  told n false h = rw (eq-eqb n ((n + 0) % 2 ^ 32) (omega arith))
-
-  credited-counted : (i : ℕ) → i < 9 → has changed i ≡ countedIn nine after i
-  credited-counted i h = rw (counter-after i h) (told (addressCounter nine i) (has changed i) (fits .low i h))
 
 -- WHAT STANDS AT EVERY POINT OF A RUN
 
@@ -351,39 +239,11 @@ firm-start nine collisions octets g = record {
   fits = record { ports = g .ports; there = λ i h. omega (arith, g .thirteen i h); low = λ i h. g .low i 12 h (omega arith) };
 }
 
--- only a heard port has a new address
-module _ (ps : List Port) (w : Wire.Burst) (f : Effect) (b : Burst) (source : List ℕ) (nine : List Attributes) (i : ℕ) where
-  heard-changed : has (changedOf (hearingOf ps w .heard) f b source nine) i ≡ true → has (hearingOf ps w .h) i ≡ true
-  unfolding changedOf
-  heard-changed h = go (hearingOf ps w .heard) refl h
-    where
-      named : (p : ℕ) (n : Bool) → hearingOf ps w .heard ≡ One p → has (cond n (setOf (λ i. eqb i p)) 0) i ≡ true → has (hearingOf ps w .h) i ≡ true
-      named p true e k = rw (eqb-true i p (set-true (λ i. eqb i p) i k)) (one-heard ps w p .forth e .is)
-      named p false e k = absurd (true≢false (sym k ∙ has-none i))
-
-      go : (k : Heard) → hearingOf ps w .heard ≡ k → has (changedOf k f b source nine) i ≡ true → has (hearingOf ps w .h) i ≡ true
-      go Nothing e k = absurd (true≢false (sym k ∙ has-none i))
-      go (One p) e k = named p (newcomer p f b source nine) e k
-      go More e k = absurd (true≢false (sym k ∙ has-none i))
-
 -- as many change registers as before
 moved-length : (c : Core) (q : Repeater) (loopback sqe : Bool) (address : ℕ) → length (moved c q loopback sqe address .changes) ≡ length (c .changes)
 unfolding moved noted
 moved-length c q loopback sqe address =
     each-length (λ r m. bitOr m (getD (eventsOf (bitXor (partitionedOf (c .repeater)) (partitionedOf q)) (bitXor (linkedOf (c .repeater)) (linkedOf q)) loopback sqe address) r 0)) (c .changes)
-
-seen-length : (x : Register) (c : Core) → length (seen x c .changes) ≡ length (c .changes)
-unfolding seen
-seen-length reg.Unlisted c = refl
-seen-length reg.TransmitCollisions c = refl
-seen-length reg.TotalOctets c = refl
-seen-length reg.Version c = refl
-seen-length reg.SetPort c = refl
-seen-length reg.GetPort c = refl
-seen-length (reg.Change r) c = length-set (c .changes) r 0
-seen-length (reg.Enable r) c = refl
-seen-length (reg.Counter p r) c = refl
-seen-length (reg.Address p) c = refl
 
 module _ (source : List ℕ) (s : Chip) (host : Host) where
   eight-after : (a : Asked) → length (s .core .changes) ≡ 8 → length (taken a source s host .chip .core .changes) ≡ 8
@@ -395,7 +255,7 @@ module _ (source : List ℕ) (s : Chip) (host : Host) where
   eight-after (ask.WriteD b) n =
       after-write (λ d. length (d .changes) ≡ 8) (s .core) b n (λ g k. moved-length (s .core) _ _ _ _ ∙ n) (λ g q. moved-length (s .core) _ _ _ _ ∙ n) (λ k. n) host
   eight-after ask.ReadC n = n
-  eight-after ask.ReadD n = after-read (λ d v. length (d .changes) ≡ 8) (s .core) (s .attributes) host (λ k. n) (λ v. seen-length (selectedBy host) (s .core) ∙ n)
+  eight-after ask.ReadD n = after-read 0 (λ d b. length (d .changes) ≡ 8) (s .core) n (λ k. length-set (s .core .changes) k 0 ∙ n) (s .attributes) host
   eight-after ask.Reset n = refl
   eight-after (ask.Refused k) n = n
 
@@ -424,7 +284,7 @@ firm-after p bs f = record {
 
 -- ONE RECORD
 
--- the event of bit j of register R between two states
+-- the event of bit j of register R between two states, of the repeater x and y and of the attributes
 abbrev between : ℕ → ℕ → Bool → Bool → Repeater → Repeater → List Attributes → List Attributes → Bool
 between r j loopback sqe x y nine next =
     eventBit r j (λ i. differs (has (partitionedOf x) i) (has (partitionedOf y) i)) (λ i. differs (has (linkedOf x) i) (has (linkedOf y) i)) loopback sqe (countedIn nine next)
@@ -434,74 +294,31 @@ differs-self true = refl
 differs-self false = refl
 
 module _ (r j : ℕ) (h : r < 8) (l : j < 8) where
-  module _ (c : Core) (n : length (c .changes) ≡ 8) (nine next : List Attributes) where
-    -- the bits are noted
-    moved-step : (q : Repeater) (loopback sqe : Bool) (address : ℕ) → Alike (has address) (countedIn nine next)
-        → bitOf r j (moved c q loopback sqe address) ≡ (bitOf r j c || between r j loopback sqe (c .repeater) q nine next)
-    moved-step q loopback sqe address a =
-        moved-bit c q loopback sqe address r j n h l
-        ∙ ap (λ (b : Bool). bitOf r j c || b)
-        (same-bit r j _ _ _ _ _ _ loopback sqe l (λ i k. has-xor (partitionedOf (c .repeater)) (partitionedOf q) i) (λ i k. has-xor (linkedOf (c .repeater)) (linkedOf q) i) a)
-
-    module _ (a : (i : ℕ) → countedIn nine next i ≡ false) where
-      quiet-step : (q : Repeater) → bitOf r j (moved c q false false 0) ≡ (bitOf r j c || between r j false false (c .repeater) q nine next)
-      quiet-step q = moved-step q false false 0 (λ i k. has-none i ∙ sym (a i))
-
-      -- nothing happens
-      nothing : between r j false false (c .repeater) (c .repeater) nine next ≡ false
-      nothing =
-          same-bit r j _ nobody _ nobody _ nobody false false l (λ i k. differs-self (has (partitionedOf (c .repeater)) i)) (λ i k. differs-self (has (linkedOf (c .repeater)) i)) (λ i k. a i)
-          ∙ no-bit r j h
-
-      still-step : bitOf r j c ≡ (bitOf r j c || between r j false false (c .repeater) (c .repeater) nine next)
-      still-step = sym (ap (λ (b : Bool). bitOf r j c || b) nothing ∙ or-false (bitOf r j c))
-
-    -- a read of register x
-    module _ (a : (i : ℕ) → countedIn nine next i ≡ false) where
-      abbrev Seen : Register → Type 0
-      Seen x = bitOf r j (seen x c) ≡ cond (isChange r x) false (bitOf r j c || between r j false false (c .repeater) (seen x c .repeater) nine next)
-
-      change-seen : (k : ℕ) → Seen (reg.Change k)
-      unfolding seen
-      change-seen k = go (eqb k r) refl
-        where
-          go : (b : Bool) → eqb k r ≡ b
-              → has (getD (set (c .changes) k 0) r 0) j ≡ cond (eqb k r) false (bitOf r j c || between r j false false (c .repeater) (c .repeater) nine next)
-          go true e = rw (zeroed (c .changes) k r, e) (has-none j)
-          go false e = rw (zeroed (c .changes) k r, e) (still-step a)
-
-      read-seen : (x : Register) → Seen x
-      unfolding seen
-      read-seen reg.Unlisted = still-step a
-      read-seen reg.TransmitCollisions = still-step a
-      read-seen reg.TotalOctets = still-step a
-      read-seen reg.Version = still-step a
-      read-seen reg.SetPort = still-step a
-      read-seen reg.GetPort = still-step a
-      read-seen (reg.Change k) = change-seen k
-      read-seen (reg.Enable k) = still-step a
-      read-seen (reg.Counter p k) = still-step a
-      read-seen (reg.Address p) = still-step a
-
-  -- what clears the bit, and the events of a burst, by what is asked
-  abbrev clearsFor : Asked → Register → Answer → Bool
-  clearsFor a x v = eqb (kindOf a) 8 || (eqb (kindOf a) 7 && accepted v && isChange r x)
-
-  abbrev loopbackFor : Asked → Answer → Bool
-  loopbackFor a v = ifBurst false (λ b. b .«loopback_missing» && has (outputsOf v) aui) a
-
-  abbrev sqeFor : Asked → Bool
-  sqeFor a = ifBurst false (λ b. b .«sqe_test») a
+  moved-step : (c : Core) → length (c .changes) ≡ 8 → (nine next : List Attributes) (q : Repeater) (loopback sqe : Bool) (address : ℕ) → Same (has address) (countedIn nine next)
+      → bitOf r j (moved c q loopback sqe address) ≡ (bitOf r j c || between r j loopback sqe (c .repeater) q nine next)
+  moved-step c n nine next q loopback sqe address a =
+      moved-bit c q loopback sqe address r j n h l
+      ∙ ap (λ (b : Bool). bitOf r j c || b)
+      (same-bit r j _ _ _ _ _ _ loopback sqe l (λ i k. has-xor (partitionedOf (c .repeater)) (partitionedOf q) i) (λ i k. has-xor (linkedOf (c .repeater)) (linkedOf q) i) a)
 
   module _ (source : List ℕ) (s : Chip) (host : Host) (n : length (s .core .changes) ≡ 8) (f : Fits (s .attributes)) where
-    abbrev Steps : Asked → Type 0
-    Steps a =
-        bitOf r j (taken a source s host .chip .core)
-        ≡ cond (clearsFor a (selectedBy host) (taken a source s host .answer)) false
-        (bitOf r j (s .core)
-        || between r j (loopbackFor a (taken a source s host .answer)) (sqeFor a) (s .core .repeater) (taken a source s host .chip .core .repeater) (s .attributes) (taken a source s host .chip .attributes))
+    -- what clears the bit, and the events of a burst, by what is asked
+    abbrev clearsFor : Asked → Answer → Bool
+    clearsFor a v = eqb (kindOf a) 8 || (eqb (kindOf a) 7 && accepted v && isChange r (selectedBy host))
 
-    burst-step : (b : Burst) → Steps (ask.Burst b)
+    abbrev loopbackFor : Asked → Answer → Bool
+    loopbackFor a v = ifBurst false (λ b. b .«loopback_missing» && has (outputsOf v) aui) a
+
+    abbrev sqeFor : Asked → Bool
+    sqeFor a = ifBurst false (λ b. b .«sqe_test») a
+
+    abbrev Steps : Asked → Stepped → Type 0
+    Steps a t =
+        bitOf r j (t .chip .core)
+        ≡ cond (clearsFor a (t .answer)) false
+        (bitOf r j (s .core) || between r j (loopbackFor a (t .answer)) (sqeFor a) (s .core .repeater) (t .chip .core .repeater) (s .attributes) (t .chip .attributes))
+
+    burst-step : (b : Burst) → Steps (ask.Burst b) (taken (ask.Burst b) source s host)
     unfolding taken burstOn burstCore burstOf followed marksOf wired moved kindOf ifBurst
     burst-step b =
         let t : Bursted = burstOf (s .core .repeater) (wired b) in
@@ -510,45 +327,59 @@ module _ (r j : ℕ) (h : r < 8) (l : j < 8) where
         moved-step (s .core) n (s .attributes) (each (creditedAt g (t .effect) (cutBy (s .core) t) changed b source) (s .attributes)) (t .repeater) (t .marks .loopback) (t .marks .sqe) changed
         (credited-counted g (t .effect) (cutBy (s .core) t) changed b source (s .attributes) f (heard-changed (s .core .repeater .ports) (wired b) (t .effect) b source (s .attributes)))
 
-    write-step : (b : ℕ) → Steps (ask.WriteD b)
+    -- any other record: d is the core after it, and b whether it clears
+    module _ (a : Asked) where
+      abbrev next : List Attributes
+      next = readdressed (actOn a (s .core) (s .attributes) host .port) (actOn a (s .core) (s .attributes) host .host .bytes) (s .attributes)
+
+      abbrev Follows : Core → Bool → Type 0
+      Follows d b = bitOf r j d ≡ cond b false (bitOf r j (s .core) || between r j false false (s .core .repeater) (d .repeater) (s .attributes) next)
+
+      uncounted : (i : ℕ) → countedIn (s .attributes) next i ≡ false
+      uncounted = readdressed-counted (actOn a (s .core) (s .attributes) host .port) (actOn a (s .core) (s .attributes) host .host .bytes) (s .attributes)
+
+      moves : (q : Repeater) → Follows (moved (s .core) q false false 0) false
+      unfolding moved
+      moves q = moved-step (s .core) n (s .attributes) next q false false 0 (λ i k. has-none i ∙ sym (uncounted i))
+
+      no-event : between r j false false (s .core .repeater) (s .core .repeater) (s .attributes) next ≡ false
+      no-event =
+          same-bit r j _ nobody _ nobody _ nobody false false l (λ i k. differs-self (has (partitionedOf (s .core .repeater)) i)) (λ i k. differs-self (has (linkedOf (s .core .repeater)) i))
+          (λ i k. uncounted i)
+          ∙ no-bit r j
+
+      stays : Follows (s .core) false
+      stays = sym (ap (λ (b : Bool). bitOf r j (s .core) || b) no-event ∙ or-false (bitOf r j (s .core)))
+
+      clearing : (k : ℕ) → Follows (withChanges (s .core) (set (s .core .changes) k 0)) (eqb k r)
+      clearing k = go (eqb k r) refl
+        where
+          go : (b : Bool) → eqb k r ≡ b → Follows (withChanges (s .core) (set (s .core .changes) k 0)) (eqb k r)
+          go true e = rw (zeroed (s .core .changes) k r, e) (has-none j)
+          go false e = rw (zeroed (s .core .changes) k r, e) stays
+
+    write-step : (b : ℕ) → Steps (ask.WriteD b) (taken (ask.WriteD b) source s host)
     unfolding taken actOn obeyed moved kindOf ifBurst
     write-step b =
-        let t : Acted = dWriteOf (s .core) host b in
-        let next : List Attributes = readdressed (t .port) (t .host .bytes) (s .attributes) in
-        let a : (i : ℕ) → countedIn (s .attributes) next i ≡ false = readdressed-counted (t .port) (t .host .bytes) (s .attributes) in
-        after-write (λ d. bitOf r j d ≡ (bitOf r j (s .core) || between r j false false (s .core .repeater) (d .repeater) (s .attributes) next)) (s .core) b
-        (still-step (s .core) n (s .attributes) next a)
-        (λ g k. quiet-step (s .core) n (s .attributes) next a (setTo k (s .core .repeater)))
-        (λ g q. quiet-step (s .core) n (s .attributes) next a (gotOf q (s .core .repeater) .repeater))
-        (λ k. still-step (s .core) n (s .attributes) next a)
-        host
+        let a : Asked = ask.WriteD b in
+        after-write (λ d. Follows a d false) (s .core) b (stays a) (λ g k. moves a (setTo k (s .core .repeater))) (λ g q. moves a (gotOf q (s .core .repeater) .repeater)) (λ k. stays a) host
 
-    read-step : Steps ask.ReadD
-    unfolding taken actOn kindOf ifBurst accepted
-    read-step =
-        let t : Acted = dReadOf (s .core) (s .attributes) host in
-        let next : List Attributes = readdressed (t .port) (t .host .bytes) (s .attributes) in
-        let a : (i : ℕ) → countedIn (s .attributes) next i ≡ false = readdressed-counted (t .port) (t .host .bytes) (s .attributes) in
-        after-read
-        (λ d v. bitOf r j d ≡ cond (accepted v && isChange r (selectedBy host)) false (bitOf r j (s .core) || between r j false false (s .core .repeater) (d .repeater) (s .attributes) next))
-        (s .core) (s .attributes) host (λ k. still-step (s .core) n (s .attributes) next a) (λ v. read-seen (s .core) n (s .attributes) next a (selectedBy host))
-
-    other-step : (a : Asked) → Steps a
-    unfolding taken actOn moved cReadOf readdressed kindOf ifBurst
-    other-step (ask.Burst b) = burst-step b
-    other-step (ask.Pulse m) = quiet-step (s .core) n (s .attributes) (s .attributes) (λ i. same-counter (addressCounter (s .attributes) i) _ refl) (pulsedAll (s .core .repeater) m)
-    other-step ask.Tick = quiet-step (s .core) n (s .attributes) (s .attributes) (λ i. same-counter (addressCounter (s .attributes) i) _ refl) (tickedAll (s .core .repeater))
-    other-step (ask.WriteC b) = still-step (s .core) n (s .attributes) (s .attributes) (λ i. same-counter (addressCounter (s .attributes) i) _ refl)
-    other-step (ask.WriteD b) = write-step b
-    other-step ask.ReadC = still-step (s .core) n (s .attributes) (s .attributes) (λ i. same-counter (addressCounter (s .attributes) i) _ refl)
-    other-step ask.ReadD = read-step
-    other-step ask.Reset = rw (getD-replicate {A = ℕ} 8 r 0 0 h) (has-none j)
-    other-step (ask.Refused k) = still-step (s .core) n (s .attributes) (s .attributes) (λ i. same-counter (addressCounter (s .attributes) i) _ refl)
+    step : (a : Asked) → Steps a (taken a source s host)
+    unfolding taken actOn cReadOf moved kindOf ifBurst
+    step (ask.Burst b) = burst-step b
+    step (ask.Pulse m) = moves (ask.Pulse m) (pulsedAll (s .core .repeater) m)
+    step ask.Tick = moves ask.Tick (tickedAll (s .core .repeater))
+    step (ask.WriteC b) = stays (ask.WriteC b)
+    step (ask.WriteD b) = write-step b
+    step ask.ReadC = stays ask.ReadC
+    step ask.ReadD = after-read r (Follows ask.ReadD) (s .core) (stays ask.ReadD) (clearing ask.ReadD) (s .attributes) host
+    step ask.Reset = rw (getD-replicate {A = ℕ} 8 r 0 0 h) (has-none j)
+    step (ask.Refused k) = stays (ask.Refused k)
 
   step-bit : (p : Point) (bs : List ℕ) → Firm p
       → changeBit r j (happening p bs .after) ≡ cond (clears r (happening p bs)) false (changeBit r j p || changes r j (happening p bs))
   unfolding happening stepOf changes eventBit
-  step-bit p bs f = other-step (recordOf bs .source) (p .chip) (p .host) (f .eight) (f .fits) (recordOf bs .asked)
+  step-bit p bs f = step (recordOf bs .source) (p .chip) (p .host) (f .eight) (f .fits) (recordOf bs .asked)
 
 -- ALL RECORDS
 

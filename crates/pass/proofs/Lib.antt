@@ -1,15 +1,16 @@
 -- Proofs that the statements of specs/Pass.antt hold.
 pub mod Computing
+pub mod Accesses
+pub mod Enabled
+pub mod Partition
+pub mod AddressCounter
+pub mod ChangeBits
 pub mod Instances
-pub mod TurnedAway
-pub mod Sequences
-pub mod Polling
 pub mod Credited
 pub mod Counters
 pub mod Readings
 pub mod Addresses
 pub mod HostPast
-pub mod Accesses
-pub mod Enabled
-pub mod Partition
-pub mod ChangeBits
+pub mod TurnedAway
+pub mod Sequences
+pub mod Polling

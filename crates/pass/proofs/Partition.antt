@@ -1,5 +1,6 @@
 -- Demand 3 for a port's partition: after any list of records from power-up a port is partitioned exactly if its past since the last clearing event struck it.
 -- The repeater's own proofs (Past and Events there) go from events to standings; here each record is tied to the event that it is to a port. Assumes nothing.
+--   at-boundaries     == both sides computed on lists of records; struck-by-32 and struck-by-1025, the two ways of being struck
 --   moves             == one record moves a port's standing as its event says
 --   partition-by-past == demand 3
 use Prim.Native.Nat.{ℕ, _<_}
@@ -19,23 +20,20 @@ use Rattle.repeater.specs.declared.repeater.Repeater.{Repeater}
 use Rattle.repeater.specs.declared.repeater.Those.the-variants.{Partitioned}
 use Rattle.repeater.specs.Repeater.{setTo, gotOf, tickedAll, pulsedAll, burstOf, among, enabledOf, partitionedOf}
 use Rattle.repeater.specs.Port.{noPort}
-use Rattle.repeater.specs.Reset.{powerUp}
 use Rattle.repeater.specs.History.{Event, collided, neither, cleared, Standing, connected, partitioned, afterEvent, since, Struck, long, many, isPartitioned, struck}
 use Rattle.repeater.specs.Events.{standingOf, standingAt, eventOf, followedEvent, burstEvent, setEvent}
 use Rattle.repeater.proofs.RepeaterLaws.{those-has}
 use Rattle.repeater.proofs.Past.{Keeps, told-exactly}
 use Rattle.repeater.proofs.Events.{burst-moves, tick-moves, pulse-moves, get-moves, set-moves, reset-moves, up-connected}
 use Rattle.host.specs.declared.Host.{Host}
-use Rattle.host.specs.declared.Register.{Register}
-use Rattle.host.specs.declared.Register.the-variants as reg
 use Rattle.attributes.specs.declared.Attributes.{Attributes}
 use Rattle.himib.specs.declared.core.Core.{Core}
 use Rattle.himib.specs.declared.step.Chip.{Chip}
 use Rattle.himib.specs.Bursts.{wired, burstCore, burstOn}
 use Rattle.himib.specs.Chip.{moved}
-use Rattle.himib.specs.Access.{cReadOf, dReadOf, dWriteOf, obeyed, seen, selectedBy}
+use Rattle.himib.specs.Access.{cReadOf, dReadOf, dWriteOf, obeyed}
 use Rattle.himib.specs.Step.{actOn, taken, stepOf}
-use Rattle.pass.specs.Runs.{Exactly, Point, Happening, happening, history, run, start, kindOf, ifBurst, repeaterAt, partitionedAt}
+use Rattle.pass.specs.Runs.{Point, happening, history, run, start, kindOf, ifBurst, repeaterAt, partitionedAt}
 use Rattle.pass.specs.Pass.{eventAt, PartitionByPast}
 use Rattle.pass.specs.Examples.{noAddress, burstRecord, pulseRecord, cWriteRecord, dWriteRecord, resetRecord, up}
 use Rattle.pass.proofs.Computing.{step-computes}
@@ -52,9 +50,9 @@ Both rs i b = (partitionedAt (run up rs) i ≡ b) × (struck (since (map (eventA
 abbrev crowded : ℕ → List (List ℕ)
 crowded n = replicate 4 (pulseRecord 0b11) ++ replicate n (burstRecord 0b11 0 600 0 0 100 300 noAddress)
 
--- AUI alone with its collision signal, for x bit times
-abbrev signalled : ℕ → List (List ℕ)
-signalled x = burstRecord 0b100000000 0b00100 2000 0 0 100 x noAddress ∷ []
+-- n bursts of AUI alone with its collision signal, each for x bit times
+abbrev signalled : ℕ → ℕ → List (List ℕ)
+signalled n x = replicate n (burstRecord 0b100000000 0b00100 2000 0 0 100 x noAddress)
 
 -- TP0 alone, for d bit times
 abbrev alone : ℕ → List (List ℕ)
@@ -66,22 +64,24 @@ disabling = cWriteRecord 0b11111110 ∷ dWriteRecord 0b00100000 ∷ []
 
 at-boundaries : Both (crowded 31) 0 false
     × Both (crowded 32) 0 true
-    × Both (signalled 1024) 8 false
-    × Both (signalled 1025) 8 true
+    × Both (signalled 31 300) 8 false
+    × Both (signalled 32 300) 8 true
+    × Both (signalled 1 1024) 8 false
+    × Both (signalled 1 1025) 8 true
     × Both (crowded 32 ++ alone 512) 0 true
     × Both (crowded 32 ++ alone 513) 0 false
     × Both (crowded 32 ++ disabling) 0 false
     × Both (crowded 32 ++ disabling) 1 true
     × Both (crowded 32 ++ (resetRecord ∷ [])) 1 false
 unfolding step-computes run history happening eventAt eventOf followedEvent burstEvent kindOf ifBurst
-at-boundaries = ((refl, refl), (refl, refl), (refl, refl), (refl, refl), (refl, refl), (refl, refl), (refl, refl), (refl, refl), (refl, refl))
+at-boundaries = ((refl, refl), (refl, refl), (refl, refl), (refl, refl), (refl, refl), (refl, refl), (refl, refl), (refl, refl), (refl, refl), (refl, refl), (refl, refl))
 
 -- the two ways of being struck
 struck-by-32 : Struck (since (map (eventAt 0) (history up (crowded 32))))
 unfolding step-computes history happening eventAt eventOf followedEvent burstEvent kindOf ifBurst
 struck-by-32 = many (replicate 4 neither) (replicate 32 (collided 300)) [] (lit≤ tt) refl
 
-struck-by-1025 : Struck (since (map (eventAt 8) (history up (signalled 1025))))
+struck-by-1025 : Struck (since (map (eventAt 8) (history up (signalled 1 1025))))
 unfolding step-computes history happening eventAt eventOf followedEvent burstEvent kindOf ifBurst
 struck-by-1025 = long [] [] 1025 (lit< tt)
 
@@ -98,7 +98,7 @@ eventFor i a r q =
     cond (eqb (kindOf a) 8 || (has (enabledOf r) i && not (has (enabledOf q) i))) cleared
     (ifBurst neither (λ b. burstEvent r (wired b) i) a)
 
--- what any record but a reset and a burst is
+-- a record that is no reset is the event e to port i, unless it disables the port
 abbrev otherwise : ℕ → Event → Repeater → Repeater → Event
 otherwise i e r q = cond (has (enabledOf r) i && not (has (enabledOf q) i)) cleared e
 
@@ -106,21 +106,8 @@ abbrev Moves : ℕ → Repeater → Repeater → Event → Type 0
 Moves i r q e = standingAt q i ≡ afterEvent (standingAt r i) e
 
 -- a read leaves the repeater alone
-seen-same : (x : Register) (c : Core) → c .repeater ≡ seen x c .repeater
-unfolding seen
-seen-same reg.Unlisted c = refl
-seen-same reg.TransmitCollisions c = refl
-seen-same reg.TotalOctets c = refl
-seen-same reg.Version c = refl
-seen-same reg.SetPort c = refl
-seen-same reg.GetPort c = refl
-seen-same (reg.Change r) c = refl
-seen-same (reg.Enable r) c = refl
-seen-same (reg.Counter p r) c = refl
-seen-same (reg.Address p) c = refl
-
 read-same : (c : Core) (nine : List Attributes) (h : Host) → c .repeater ≡ dReadOf c nine h .core .repeater
-read-same c nine h = after-read (λ d v. c .repeater ≡ d .repeater) c nine h (λ k. refl) (λ v. seen-same (selectedBy h) c)
+read-same c nine h = after-read 0 (λ d b. c .repeater ≡ d .repeater) c refl (λ k. refl) nine h
 
 module _ (i : ℕ) (l : i < 16) where
   -- nobody is disabled
@@ -179,6 +166,7 @@ module _ (i : ℕ) (l : i < 16) where
     moves = λ p r h. moves p r;
   }
 
+-- a port's bit in the mask tells its standing
 standing-test : (p : Port) → isPartitioned (standingOf p) ≡ p .partitioned
 standing-test p = go (p .partitioned) refl
   where
