@@ -4,7 +4,7 @@
 --   four-bytes-at        == four bytes spell the number, at any point with such counters as there are
 use Prim.Native.Nat.{ℕ, zero, suc, _+_, _^_, _≤_, _<_}
 use mathlib.Core.Path.{_≡_, refl, sym, ap, _∙_}
-use mathlib.Core.Bool.{Bool, true, false, cond, not, _&&_, _||_, true≢false, or-false}
+use mathlib.Core.Bool.{Bool, true, false, cond, not, _&&_, _||_, true≢false}
 use mathlib.Core.List.{List, [], _∷_, _++_}
 use native.Mathlib.Omega.{arith}
 use native.Mathlib.Nat.{add-zero}
@@ -40,7 +40,7 @@ use Rattle.pass.specs.Pass.{bytesRead, undisturbed, registerOf, bytesOf,
 use Rattle.pass.specs.Examples.{noAddress, cWriteRecord, dReadRecord}
 use Rattle.pass.proofs.Computing.{step-computes, nineAt, somebody, auiFrame, selecting, reading}
 use Rattle.pass.proofs.Credited.{fit-run}
-use Rattle.pass.proofs.TurnedAway.{keeps-any}
+use Rattle.pass.proofs.TurnedAway.{host-left}
 
 -- INSTANCES
 
@@ -101,12 +101,9 @@ four-spelt = (given-nine 0x040302ff (omega arith), refl, refl, refl)
 abbrev readingAt : Chip → Host → Reading
 readingAt s h = readByte (sizeOf (selectedBy h)) (valueOf (s .core) (s .attributes) (selectedBy h)) h
 
--- what one record does to the host's record
+-- what an accepted record does to the host's record
 module _ (source : List ℕ) (s : Chip) (h : Host) where
-  abbrev answered : Asked → Bool
-  answered a = accepted (taken a source s h .answer)
-
-  kept-by : (a : Asked) → (eqb (kindOf a) 4 || eqb (kindOf a) 5 && answered a || eqb (kindOf a) 8) ≡ false → (eqb (kindOf a) 7 && answered a) ≡ false
+  kept-by : (a : Asked) → (eqb (kindOf a) 4 || eqb (kindOf a) 5 && true || eqb (kindOf a) 8) ≡ false → (eqb (kindOf a) 7 && true) ≡ false
       → taken a source s h .host ≡ h
   unfolding kindOf taken actOn cReadOf
   kept-by (ask.Refused k) d e = refl
@@ -114,9 +111,9 @@ module _ (source : List ℕ) (s : Chip) (h : Host) where
   kept-by (ask.Pulse m) d e = refl
   kept-by ask.Tick d e = refl
   kept-by (ask.WriteC b) d e = absurd (true≢false d)
-  kept-by (ask.WriteD b) d e = keeps-any s h (ask.WriteD b) source (rw or-false at d) .1
+  kept-by (ask.WriteD b) d e = absurd (true≢false d)
   kept-by ask.ReadC d e = refl
-  kept-by ask.ReadD d e = keeps-any s h ask.ReadD source e .1
+  kept-by ask.ReadD d e = absurd (true≢false e)
   kept-by ask.Reset d e = absurd (true≢false d)
 
   -- an accepted D read
@@ -132,7 +129,7 @@ module _ (source : List ℕ) (s : Chip) (h : Host) where
       go false true = λ e. absurd (true≢false (sym e))
       go false false = λ e. (refl, refl)
 
-  read-by : (a : Asked) → (eqb (kindOf a) 7 && answered a) ≡ true
+  read-by : (a : Asked) → (eqb (kindOf a) 7 && accepted (taken a source s h .answer)) ≡ true
       → (taken a source s h .host ≡ readingAt s h .host) × (byteOf (taken a source s h .answer) ≡ readingAt s h .byte)
   unfolding kindOf taken actOn
   read-by (ask.Refused k) e = absurd (true≢false (sym e))
@@ -151,7 +148,11 @@ module _ (p : Point) (r : List ℕ) where
 
   host-kept : disturbs ≡ false → reads (happening p r) ≡ false → happening p r .after .host ≡ p .host
   unfolding happening stepOf
-  host-kept d e = kept-by (recordOf r .source) (p .chip) (p .host) (recordOf r .asked) d e
+  host-kept d e = go (accepted (happening p r .answer)) refl
+    where
+      go : (b : Bool) → accepted (happening p r .answer) ≡ b → happening p r .after .host ≡ p .host
+      go true t = kept-by (recordOf r .source) (p .chip) (p .host) (recordOf r .asked) (rw t at d) (rw t at e)
+      go false t = host-left p r t
 
   host-read : reads (happening p r) ≡ true
       → (happening p r .after .host ≡ readingAt (p .chip) (p .host) .host) × (byteOf (happening p r .answer) ≡ readingAt (p .chip) (p .host) .byte)
