@@ -241,7 +241,7 @@ pub fn share_of(g: Hearing, f: Effect, cut: u16, changed: u16, i: usize) -> Shar
     }
 }
 
-// Port i's attributes after a burst.
+// Port i's attributes after a burst that it has a part in.
 fn credit_at(
     g: Hearing,
     f: Effect,
@@ -252,19 +252,13 @@ fn credit_at(
     i: usize,
     a: Attributes,
 ) -> Attributes
-    ensures { λ r. ⌜ r ≡ creditedAt g f cut changed b source i a ⌝ }
+    ensures { λ r. ⌜ r ≡ creditedWith (shareOf g f cut changed i) b source a ⌝ }
 {
-    if ports::contains(g.h, i) {
-        return a.credit(share_of(g, f, cut, changed, i), b, source);
-    }
-    if ports::contains(cut, i) {
-        return a.credit(share_of(g, f, cut, changed, i), b, source);
-    }
-    a
+    a.credit(share_of(g, f, cut, changed, i), b, source)
 }
 
-// All nine ports' attributes after a burst, one after the other.
-fn credit_all(
+// All nine ports' attributes after a burst. Most bursts touch one port, and the others are left alone.
+pub fn credit_ports(
     nine: [Attributes; 9],
     g: Hearing,
     f: Effect,
@@ -275,10 +269,14 @@ fn credit_all(
 ) -> [Attributes; 9]
     ensures { λ r. ⌜ r ≡ each (creditedAt g f cut changed b source) nine ⌝ }
 {
+    let touched = g.h | cut;
     let mut out = nine;
     for i in 0..9 {
-        let a = out[i];
-        out[i] = credit_at(g, f, cut, changed, b, source, i, a);
+        if ports::contains(touched, i) {
+            let a = out[i];
+            out[i] = credit_at(g, f, cut, changed, b, source, i, a);
+            continue;
+        }
     }
     out
 }
@@ -306,37 +304,6 @@ pub fn with_attributes(nine: [Attributes; 9], i: usize, a: Attributes) -> [Attri
         return out;
     }
     out
-}
-
-fn place(i: u32) -> usize
-    ensures { λ r. ⌜ r ≡ i ⌝ }
-{
-    i as usize
-}
-
-// All nine ports' attributes after a burst. Most bursts touch one port, and most ports are left alone.
-pub fn credit_ports(
-    nine: [Attributes; 9],
-    g: Hearing,
-    f: Effect,
-    cut: u16,
-    changed: u16,
-    b: Burst,
-    source: [u8; 6],
-) -> [Attributes; 9]
-    ensures { λ r. ⌜ r ≡ each (creditedAt g f cut changed b source) nine ⌝ }
-{
-    let touched = g.h | cut;
-    let n = u16::count_ones(touched);
-    if n == 0 {
-        return nine;
-    }
-    if n == 1 {
-        let p = place(u16::trailing_zeros(touched));
-        let a = attributes_at(nine, p);
-        return with_attributes(nine, p, credit_at(g, f, cut, changed, b, source, p, a));
-    }
-    credit_all(nine, g, f, cut, changed, b, source)
 }
 
 // The port whose address a readable frame changes, as a set.

@@ -5,6 +5,7 @@
 --   worked k s w    == after at most k records more, as long as there is room
 --   blockOf ..      == after the whole records of the input
 --   Answered        == what `answer_block` does; `all`: where the buffer is as long as the input, no whole record is left
+--   AnsweredPiece   == what `answer_piece` does with what is left at the end of the input
 -- Assumes nothing.
 use Prim.Native.Nat.{ℕ, zero, suc, _+_, _-_, _/_, _%_, _^_, _≤_, _<_}
 use mathlib.Core.Path.{_≡_}
@@ -60,18 +61,13 @@ pub record Answered (c : Chip) (h : Host) (n : ℕ) (input out : List ℕ) (w : 
   pub fits : w .used ≤ length (w .out)
   pub all : length input ≤ length out → length input - w .at < 32
 
--- whether a record asks for a burst, and which; for any other record one with nothing in it
-abbrev pub isBurst : Ask.Asked → Bool
-isBurst (ask.Burst b) = true
-isBurst (ask.Pulse m) = false
-isBurst ask.Tick = false
-isBurst (ask.WriteC b) = false
-isBurst (ask.WriteD b) = false
-isBurst ask.ReadC = false
-isBurst ask.ReadD = false
-isBurst ask.Reset = false
-isBurst (ask.Refused k) = false
+-- a piece gets the line of its answer, which is the same for every chip and every host's record
+pub record AnsweredPiece (n : ℕ) (piece out new : List ℕ) (r : ℕ) : Type 0 where
+  pub line : (length piece ≡ 32 → ⊥) → (c : Chip) (h : Host)
+      → (r ≡ afterLine out 0 n (stepOf c h piece .answer)) × (new ≡ withLine out 0 n (stepOf c h piece .answer))
+  pub none : length piece ≡ 32 → (r ≡ 0) × (new ≡ out)
 
+-- the burst that a record asks for, or one with nothing in it
 abbrev pub noBurst : Burst
 noBurst = record {
   mask = 0;
@@ -97,3 +93,15 @@ burstIn ask.ReadC = noBurst
 burstIn ask.ReadD = noBurst
 burstIn ask.Reset = noBurst
 burstIn (ask.Refused k) = noBurst
+
+-- the ports that it has link pulses for, or none
+abbrev pub pulsesIn : Ask.Asked → ℕ
+pulsesIn (ask.Burst b) = 0
+pulsesIn (ask.Pulse m) = m
+pulsesIn ask.Tick = 0
+pulsesIn (ask.WriteC b) = 0
+pulsesIn (ask.WriteD b) = 0
+pulsesIn ask.ReadC = 0
+pulsesIn ask.ReadD = 0
+pulsesIn ask.Reset = 0
+pulsesIn (ask.Refused k) = 0

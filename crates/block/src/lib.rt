@@ -1,6 +1,8 @@
 // A block of records answered: the function that the run program calls with what it has read.
 ghost use mathlib.Core.Path.{_≡_};
-ghost use Rattle.block.specs.Block.{Answered, isBurst, burstIn};
+ghost use Rattle.record.specs.Accepted.{kindNumber};
+ghost use Rattle.block.specs.Block.{Answered, AnsweredPiece, burstIn, pulsesIn};
+use answer::Answer;
 use attributes::Attributes;
 use himib::core::Core;
 use himib::step::Acted;
@@ -22,22 +24,31 @@ pub struct Block {
 impl Block {
     // The bytes of a record, and the room that is kept for a line.
     pub const RECORD: usize = 32;
+
+    // The kinds that have a way of their own through the loop.
+    const BURST: u8 = 1;
+
+    const PULSE: u8 = 2;
+
+    const TICK: u8 = 3;
+
+    const D_READ: u8 = 7;
 }
 
-// Whether a record asks for a burst.
-fn is_burst(asked: Asked) -> bool
-    ensures { λ r. ⌜ r ≡ isBurst asked ⌝ }
+// The kind of record that asks for it, or 0 for what is turned away.
+fn kind(asked: Asked) -> u8
+    ensures { λ r. ⌜ r ≡ kindNumber asked ⌝ }
 {
     match asked {
-        Asked::Burst(_) => true,
-        Asked::Pulse(_) => false,
-        Asked::Tick => false,
-        Asked::WriteC(_) => false,
-        Asked::WriteD(_) => false,
-        Asked::ReadC => false,
-        Asked::ReadD => false,
-        Asked::Reset => false,
-        Asked::Refused(_) => false,
+        Asked::Burst(_) => Block::BURST,
+        Asked::Pulse(_) => Block::PULSE,
+        Asked::Tick => Block::TICK,
+        Asked::WriteC(_) => 4,
+        Asked::WriteD(_) => 5,
+        Asked::ReadC => 6,
+        Asked::ReadD => Block::D_READ,
+        Asked::Reset => 8,
+        Asked::Refused(_) => 0,
     }
 }
 
@@ -71,6 +82,23 @@ fn burst_in(asked: Asked) -> Burst
     }
 }
 
+// The ports that a record has link pulses for, or none.
+fn pulses_in(asked: Asked) -> u16
+    ensures { λ r. ⌜ r ≡ pulsesIn asked ⌝ }
+{
+    match asked {
+        Asked::Burst(_) => 0,
+        Asked::Pulse(mask) => mask,
+        Asked::Tick => 0,
+        Asked::WriteC(_) => 0,
+        Asked::WriteD(_) => 0,
+        Asked::ReadC => 0,
+        Asked::ReadD => 0,
+        Asked::Reset => 0,
+        Asked::Refused(_) => 0,
+    }
+}
+
 // Answers every whole record of the input that there is room for and puts the lines into the buffer, one after the other. The core, the attributes and the host's
 // record are kept apart, and each kind of record touches only what it changes.
 pub fn answer_block(
@@ -97,19 +125,46 @@ pub fn answer_block(
         let r = record::read_record(&input[at..next]);
         let asked = r.asked;
         let source = r.source;
-        if is_burst(asked) {
+        let k = kind(asked);
+        if k == Block::BURST {
             let t = himib::step::burst(core, nine, burst_in(asked), source);
             let after = t.core;
             let credited = t.attributes;
             let said = t.answer;
-            used = answer::put_line(out, used, number, said);
             core = after;
             nine = credited;
+            used = answer::put_line(out, used, number, said);
             number = std::num::wrapping_add_u64(number, 1);
             at = next;
             continue;
         }
-        let t = himib::step::act(asked, core, nine, record);
+        if k == Block::TICK {
+            core = himib::step::tick(core);
+            used = answer::put_line(out, used, number, Answer::Done);
+            number = std::num::wrapping_add_u64(number, 1);
+            at = next;
+            continue;
+        }
+        if k == Block::PULSE {
+            core = himib::step::pulse(core, pulses_in(asked));
+            used = answer::put_line(out, used, number, Answer::Done);
+            number = std::num::wrapping_add_u64(number, 1);
+            at = next;
+            continue;
+        }
+        if k == Block::D_READ {
+            let t = core.read_d(nine, record);
+            let after = t.core;
+            let altered = t.host;
+            let said = t.answer;
+            core = after;
+            record = altered;
+            used = answer::put_line(out, used, number, said);
+            number = std::num::wrapping_add_u64(number, 1);
+            at = next;
+            continue;
+        }
+        let t = himib::step::rest(asked, core, record);
         let after = t.core;
         let altered = t.host;
         let said = t.answer;
@@ -117,17 +172,17 @@ pub fn answer_block(
         if port < Acted::NO_PORT {
             let bytes = altered.bytes;
             let addressed = himib::step::readdress(nine, port, bytes);
-            used = answer::put_line(out, used, number, said);
             core = after;
             nine = addressed;
             record = altered;
+            used = answer::put_line(out, used, number, said);
             number = std::num::wrapping_add_u64(number, 1);
             at = next;
             continue;
         }
-        used = answer::put_line(out, used, number, said);
         core = after;
         record = altered;
+        used = answer::put_line(out, used, number, said);
         number = std::num::wrapping_add_u64(number, 1);
         at = next;
     }
@@ -139,4 +194,14 @@ pub fn answer_block(
         at: at,
         used: used,
     }
+}
+
+// The line of a last piece that is no whole record: it is turned away with 9, whatever it holds. A whole record gets no line here.
+pub fn answer_piece(number: u64, piece: &[u8], out: &mut [u8]) -> usize
+    ensures { λ r. ⌜ AnsweredPiece number (now (piece .entry)) (now (out .entry)) (now (out .exit)) r ⌝ }
+{
+    if piece.len() == Block::RECORD {
+        return 0;
+    }
+    answer::put_line(out, 0, number, Answer::Refused(9))
 }

@@ -6,6 +6,9 @@ use mathlib.Core.List.{List}
 use native.Mathlib.Omega.{arith}
 use borrow.Author.Tests.{eq-eqb, ne-eqb}
 use lib.Dec.{eqb}
+use lib.Bits.{xor-self}
+use Rattle.repeater.specs.declared.repeater.Repeater.{Repeater}
+use Rattle.repeater.specs.Repeater.{partitionedOf}
 use Rattle.host.specs.declared.Host.{Host}
 use Rattle.host.specs.declared.Register.{Register}
 use Rattle.host.specs.Map.{registerAt, sizeOf, readableReg, writableReg}
@@ -15,8 +18,9 @@ use Rattle.himib.specs.declared.core.Core.{Core}
 use Rattle.record.specs.declared.Asked.{Asked}
 use Rattle.record.specs.declared.Asked.the-variants as ask
 use Rattle.himib.specs.declared.step.Chip.{Chip}
-use Rattle.himib.specs.Step.{actOn, afterAct, taken}
+use Rattle.himib.specs.Step.{restOn, actOn, afterAct, taken}
 use Rattle.himib.specs.Changes.{bit7}
+use Rattle.himib.specs.Chip.{movedBy, moved}
 use Rattle.himib.specs.Access.{turnedAway, selectedBy, readOf, writeOf, dReadOf, dWriteOf, takesCommands, isListed}
 
 pub bit7-le : (b : Bool) → bit7 b ≤ 128
@@ -57,6 +61,36 @@ module _ (c : Core) (h : Host) (b : ℕ) (x : Register) (n : ℕ) (s : x ≡ sel
   pub write-plain : (n ≡ 0 → ⊥) → writableReg x ≡ true → takesCommands x ≡ false → writeOf x c h b ≡ dWriteOf c h b
   unfolding dWriteOf
   write-plain e r t = rw (s, ne-eqb (sizeOf (selectedBy h)) 0 (λ k. e (z ∙ ap sizeOf s ∙ k)), rw s at r, rw s at t)
+
+-- where no port's partition state changed
+pub moved-still : (c : Core) (q : Repeater) (loopback sqe : Bool) (address : ℕ) → partitionedOf q ≡ partitionedOf (c .repeater)
+    → movedBy c q 0 loopback sqe address ≡ moved c q loopback sqe address
+unfolding moved
+moved-still c q loopback sqe address e = rw (e, xor-self (partitionedOf (c .repeater)))
+
+-- the kinds that are `restOn`'s
+unfoldable pub isRest : Asked → Bool
+isRest (ask.Burst b) = false
+isRest (ask.Pulse m) = false
+isRest ask.Tick = false
+isRest (ask.WriteC b) = true
+isRest (ask.WriteD b) = true
+isRest ask.ReadC = true
+isRest ask.ReadD = false
+isRest ask.Reset = true
+isRest (ask.Refused k) = true
+
+pub rest-acts : (a : Asked) (c : Core) (nine : List Attributes) (h : Host) → isRest a ≡ true → restOn a c h ≡ actOn a c nine h
+unfolding isRest actOn
+rest-acts (ask.Burst b) c nine h e = absurd (true≢false (sym e))
+rest-acts (ask.Pulse m) c nine h e = absurd (true≢false (sym e))
+rest-acts ask.Tick c nine h e = absurd (true≢false (sym e))
+rest-acts (ask.WriteC b) c nine h e = refl
+rest-acts (ask.WriteD b) c nine h e = refl
+rest-acts ask.ReadC c nine h e = refl
+rest-acts ask.ReadD c nine h e = absurd (true≢false (sym e))
+rest-acts ask.Reset c nine h e = refl
+rest-acts (ask.Refused k) c nine h e = refl
 
 -- every kind but a burst is `actOn`'s
 unfoldable pub isBurst : Asked → Bool

@@ -8,6 +8,8 @@ use Rattle.ports.specs.Sets.{without}
 use Rattle.ports.specs.Each.{each}
 use Rattle.record.specs.declared.Burst.{Burst}
 use Rattle.repeater.specs.declared.burst.Burst as Wire
+use Rattle.repeater.specs.declared.burst.Hearing.{Hearing}
+use Rattle.repeater.specs.declared.burst.Effect.{Effect}
 use Rattle.repeater.specs.declared.repeater.Bursted.{Bursted}
 use Rattle.repeater.specs.Repeater.{burstOf, partitionedOf}
 use Rattle.attributes.specs.declared.Attributes.{Attributes}
@@ -35,11 +37,16 @@ cutBy c t = without (partitionedOf (t .repeater)) (partitionedOf (c .repeater))
 abbrev pub counted32 : ℕ → ℕ → ℕ
 counted32 n credit = (n + credit) % 2 ^ 32
 
+-- the core d with the chip's two counters, which were those of c
+abbrev pub totalled : Core → Core → Hearing → Effect → Burst → Core
+totalled c d g f b =
+    withTotals d
+    (counted32 (c .«transmit_collisions») (transmitCollisionsOf g))
+    (counted32 (c .«total_octets») (octetsOf g f b))
+
 unfoldable pub burstCore : Core → Bursted → Burst → ℕ → Core
 burstCore c t b changed =
-    withTotals (moved c (t .repeater) (t .marks .loopback) (t .marks .sqe) changed)
-    (counted32 (c .«transmit_collisions») (transmitCollisionsOf (t .hearing)))
-    (counted32 (c .«total_octets») (octetsOf (t .hearing) (t .effect) b))
+    totalled c (moved c (t .repeater) (t .marks .loopback) (t .marks .sqe) changed) (t .hearing) (t .effect) b
 
 unfoldable pub burstOn : Core → List Attributes → Burst → List ℕ → Credited
 burstOn c nine b source =

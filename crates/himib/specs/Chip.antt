@@ -92,7 +92,10 @@ withG c v = record {
   g = v;
 }
 
+-- with the partition changes of these ports
+abbrev pub movedBy : Core → Repeater → ℕ → Bool → Bool → ℕ → Core
+movedBy c r partition loopback sqe address =
+    withRepeater c r (noted (eventsOf partition (bitXor (linkedOf (c .repeater)) (linkedOf r)) loopback sqe address) (c .changes))
+
 unfoldable pub moved : Core → Repeater → Bool → Bool → ℕ → Core
-moved c r loopback sqe address =
-    withRepeater c r
-    (noted (eventsOf (bitXor (partitionedOf (c .repeater)) (partitionedOf r)) (bitXor (linkedOf (c .repeater)) (linkedOf r)) loopback sqe address) (c .changes))
+moved c r loopback sqe address = movedBy c r (bitXor (partitionedOf (c .repeater)) (partitionedOf r)) loopback sqe address

@@ -1,5 +1,5 @@
 -- Document 01 as a whole: one record, any bytes at all, on a chip and a host's record.
---   actOn a ..    == every kind but a burst
+--   actOn a ..    == every kind but a burst; restOn has those that touch neither the repeater's clock nor a counter's value
 --   readdressed   == the attributes after a completed address write, which is no change
 --   stepOf s h bs == the chip, the host's record and the answer after the bytes bs
 -- Assumes nothing.
@@ -31,17 +31,29 @@ use Rattle.himib.specs.Access.{noPlace, cReadOf, dReadOf, dWriteOf, turn
 abbrev pub went : Core → Host → Acted
 went c h = record { core = c; host = h; answer = Done; port = noPlace }
 
+-- the host's writes, a C read, a reset and what is turned away; the others go their own way, and are left alone here
+abbrev pub restOn : Ask.Asked → Core → Host → Acted
+restOn (ask.Burst b) c h = went c h
+restOn (ask.Pulse m) c h = went c h
+restOn ask.Tick c h = went c h
+restOn (ask.WriteC b) c h = went c (selected b h)
+restOn (ask.WriteD b) c h = dWriteOf c h b
+restOn ask.ReadC c h = cReadOf c h
+restOn ask.ReadD c h = went c h
+restOn ask.Reset c h = went (coreReset c) powerUp
+restOn (ask.Refused k) c h = turnedAway c h k
+
 -- a burst goes its own way, and is left alone here
 unfoldable pub actOn : Ask.Asked → Core → List Attributes → Host → Acted
 actOn (ask.Burst b) c nine h = went c h
 actOn (ask.Pulse m) c nine h = went (moved c (pulsedAll (c .repeater) m) false false 0) h
 actOn ask.Tick c nine h = went (moved c (tickedAll (c .repeater)) false false 0) h
-actOn (ask.WriteC b) c nine h = went c (selected b h)
-actOn (ask.WriteD b) c nine h = dWriteOf c h b
-actOn ask.ReadC c nine h = cReadOf c h
+actOn (ask.WriteC b) c nine h = restOn (ask.WriteC b) c h
+actOn (ask.WriteD b) c nine h = restOn (ask.WriteD b) c h
+actOn ask.ReadC c nine h = restOn ask.ReadC c h
 actOn ask.ReadD c nine h = dReadOf c nine h
-actOn ask.Reset c nine h = went (coreReset c) powerUp
-actOn (ask.Refused k) c nine h = turnedAway c h k
+actOn ask.Reset c nine h = restOn ask.Reset c h
+actOn (ask.Refused k) c nine h = restOn (ask.Refused k) c h
 
 abbrev pub withAddress : Attributes → List ℕ → Attributes
 withAddress a s = record { counters = a .counters; address = s }

@@ -142,7 +142,7 @@ impl Core {
         ensures { λ r. ⌜ r ≡ obeyed g (Command.Set s) self ⌝ }
     {
         let repeater = self.repeater;
-        let mut out = self.move_to(repeater.set(s), false, false, 0);
+        let mut out = self.move_to(repeater.set(s));
         out.interface_error = self.interface_error | g;
         out
     }
@@ -154,7 +154,7 @@ impl Core {
         let repeater = self.repeater;
         let got = repeater.get(q);
         let next = got.repeater;
-        let mut out = self.move_to(next, false, false, 0);
+        let mut out = self.move_to(next);
         out.interface_error = self.interface_error | !g;
         out.g = got.value;
         out

@@ -1,13 +1,14 @@
 // The core of the chip: the repeater, the change bits and their enables, the chip's own counters, the interface error and G.
 ghost use Prim.Native.Nat.{_+_, _%_, _^_};
 ghost use mathlib.Core.Path.{_≡_};
+ghost use mathlib.Core.Bool.{false};
 ghost use Rattle.himib.specs.Changes.{bit7, tpByte, auiBit, eventsOf, noted, keptBits, pending};
-ghost use Rattle.himib.specs.Chip.{coreUp, coreReset, moved};
-ghost use Rattle.himib.specs.Bursts.{wired, burstCore};
-use attributes::Attributes;
+ghost use Rattle.himib.specs.Chip.{coreUp, coreReset, movedBy, moved};
+ghost use Rattle.himib.specs.Bursts.{wired, totalled};
 use record::Burst;
 use repeater::burst::Burst as Wire;
-use repeater::repeater::Bursted;
+use repeater::burst::Effect;
+use repeater::burst::Hearing;
 use repeater::repeater::Repeater;
 
 pub struct Core {
@@ -128,13 +129,19 @@ impl Core {
         Core::power_up(self.transmit_collisions, self.total_octets)
     }
 
-    // With the repeater as it is now; what changed of it is noted.
-    pub fn move_to(mut self, next: Repeater, loopback: bool, sqe: bool, address: u16) -> Core
-        ensures { λ r. ⌜ r ≡ moved self next loopback sqe address ⌝ }
+    // With the repeater as it is now and these ports' partition states changed; what changed of the links is noted, too.
+    pub fn move_by(
+        mut self,
+        next: Repeater,
+        partition: u16,
+        loopback: bool,
+        sqe: bool,
+        address: u16,
+    ) -> Core
+        ensures { λ r. ⌜ r ≡ movedBy self next partition loopback sqe address ⌝ }
     {
         let repeater = self.repeater;
         let changes = self.changes;
-        let partition = repeater.partitioned() ^ next.partitioned();
         let link = repeater.linked() ^ next.linked();
         let noted = note(changes, events(partition, link, loopback, sqe, address));
         self.repeater = next;
@@ -142,25 +149,26 @@ impl Core {
         self
     }
 
-    // After a burst that changed the addresses of these ports.
-    pub fn burst(self, t: Bursted, b: Burst, changed: u16) -> Core
-        ensures { λ r. ⌜ r ≡ burstCore self t b changed ⌝ }
+    // With the repeater as it is now; what changed of it is noted.
+    pub fn move_to(self, next: Repeater) -> Core
+        ensures { λ r. ⌜ r ≡ moved self next false false 0 ⌝ }
     {
-        let next = t.repeater;
-        let hearing = t.hearing;
-        let effect = t.effect;
-        let marks = t.marks;
+        let repeater = self.repeater;
+        let partition = repeater.partitioned() ^ next.partitioned();
+        self.move_by(next, partition, false, false, 0)
+    }
+
+    // With what a burst adds to the chip's own counters.
+    pub fn total(mut self, g: Hearing, f: Effect, b: Burst) -> Core
+        ensures { λ r. ⌜ r ≡ totalled self self g f b ⌝ }
+    {
         let collisions = std::num::wrapping_add_u32(
             self.transmit_collisions,
-            attributes::transmit_collisions(hearing),
+            attributes::transmit_collisions(g),
         );
-        let octets = std::num::wrapping_add_u32(
-            self.total_octets,
-            attributes::octets(hearing, effect, b),
-        );
-        let mut out = self.move_to(next, marks.loopback, marks.sqe, changed);
-        out.transmit_collisions = collisions;
-        out.total_octets = octets;
-        out
+        let octets = std::num::wrapping_add_u32(self.total_octets, attributes::octets(g, f, b));
+        self.transmit_collisions = collisions;
+        self.total_octets = octets;
+        self
     }
 }

@@ -4,7 +4,7 @@ ghost use mathlib.Core.Bool.{false};
 ghost use Rattle.repeater.specs.Repeater.{tickedAll, pulsedAll};
 ghost use Rattle.himib.specs.Chip.{chipUp, moved};
 ghost use Rattle.himib.specs.Bursts.{burstOn};
-ghost use Rattle.himib.specs.Step.{went, actOn, afterAct, readdressed, taken, stepOf};
+ghost use Rattle.himib.specs.Step.{went, restOn, actOn, afterAct, readdressed, taken, stepOf};
 use crate::core::Core;
 use answer::Answer;
 use attributes::Attributes;
@@ -63,32 +63,53 @@ pub fn burst(core: Core, nine: [Attributes; 9], b: Burst, source: [u8; 6]) -> Cr
     let hearing = t.hearing;
     let heard = hearing.heard;
     let effect = t.effect;
+    let marks = t.marks;
     let word = effect.word;
+    let before = repeater.partitioned();
+    let after = next.partitioned();
+    let cut = ports::less(after, before);
     let changed = attributes::changed(nine, heard, effect, b, source);
-    let cut = ports::less(next.partitioned(), repeater.partitioned());
     let credited = attributes::credit_ports(nine, hearing, effect, cut, changed, b, source);
-    let after = core.burst(t, b, changed);
+    let moved = core.move_by(next, before ^ after, marks.loopback, marks.sqe, changed);
+    let crossed = moved.total(hearing, effect, b);
     Credited {
-        core: after,
+        core: crossed,
         attributes: credited,
         answer: Answer::Sent(word, effect.out),
     }
 }
 
-// Link pulses on the core.
-fn pulse(core: Core, mask: u16) -> Core
+// Link pulses on the core. They partition no port.
+pub fn pulse(core: Core, mask: u16) -> Core
     ensures { λ r. ⌜ r ≡ moved core (pulsedAll (core .repeater) mask) false false 0 ⌝ }
 {
     let repeater = core.repeater;
-    core.move_to(repeater.pulse(mask), false, false, 0)
+    core.move_by(repeater.pulse(mask), 0, false, false, 0)
 }
 
-// A tick on the core.
-fn tick(core: Core) -> Core
+// A tick on the core. It partitions no port.
+pub fn tick(core: Core) -> Core
     ensures { λ r. ⌜ r ≡ moved core (tickedAll (core .repeater)) false false 0 ⌝ }
 {
     let repeater = core.repeater;
-    core.move_to(repeater.tick(), false, false, 0)
+    core.move_by(repeater.tick(), 0, false, false, 0)
+}
+
+// The host's writes, a C read, a reset and what is turned away. The others go their own way, and are left alone here.
+pub fn rest(asked: Asked, core: Core, h: Host) -> Acted
+    ensures { λ r. ⌜ r ≡ restOn asked core h ⌝ }
+{
+    match asked {
+        Asked::Burst(_) => Acted::go(core, h),
+        Asked::Pulse(_) => Acted::go(core, h),
+        Asked::Tick => Acted::go(core, h),
+        Asked::WriteC(b) => Acted::go(core, host::select(h, b)),
+        Asked::WriteD(b) => core.write_d(h, b),
+        Asked::ReadC => core.read_c(h),
+        Asked::ReadD => Acted::go(core, h),
+        Asked::Reset => Acted::go(core.reset(), Host::power_up()),
+        Asked::Refused(k) => Acted::turn_away(core, h, k),
+    }
 }
 
 // Every kind but a burst, which is left alone here.
@@ -99,12 +120,12 @@ pub fn act(asked: Asked, core: Core, nine: [Attributes; 9], h: Host) -> Acted
         Asked::Burst(_) => Acted::go(core, h),
         Asked::Pulse(mask) => Acted::go(pulse(core, mask), h),
         Asked::Tick => Acted::go(tick(core), h),
-        Asked::WriteC(b) => Acted::go(core, host::select(h, b)),
-        Asked::WriteD(b) => core.write_d(h, b),
-        Asked::ReadC => core.read_c(h),
+        Asked::WriteC(_) => rest(asked, core, h),
+        Asked::WriteD(_) => rest(asked, core, h),
+        Asked::ReadC => rest(asked, core, h),
         Asked::ReadD => core.read_d(nine, h),
-        Asked::Reset => Acted::go(core.reset(), Host::power_up()),
-        Asked::Refused(k) => Acted::turn_away(core, h, k),
+        Asked::Reset => rest(asked, core, h),
+        Asked::Refused(_) => rest(asked, core, h),
     }
 }
 

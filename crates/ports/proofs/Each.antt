@@ -68,35 +68,21 @@ module _ {A : Type 0} where
   pub done-more : (f : ℕ → A → A) (n : ℕ) (xs ys : List A) (d y : A) → ys ≡ done f n xs → y ≡ f n (getD ys n d) → set ys n y ≡ done f (n + 1) xs
   done-more f n xs ys d y p q = rw (q, p, read f n xs d, add-one n) (stored f n xs d)
 
+  kept : (ys : List A) (n : ℕ) (d : A) → set ys n (getD ys n d) ≡ ys
+  kept [] n d = refl
+  kept (y ∷ ys) zero d = refl
+  kept (y ∷ ys) (suc n) d = ap (λ (l : List A). y ∷ l) (kept ys n d)
+
+  -- a turn that leaves what stands at n alone, since f n does
+  pub done-left : (f : ℕ → A → A) (n : ℕ) (xs ys : List A) (d : A) → ys ≡ done f n xs → getD ys n d ≡ f n (getD ys n d) → ys ≡ done f (n + 1) xs
+  done-left f n xs ys d p q = sym (kept ys n d) ∙ done-more f n xs ys d (getD ys n d) p q
+
   -- after the last turn
   pub done-all : (f : ℕ → A → A) (n : ℕ) (xs : List A) → length xs ≤ n → done f n xs ≡ each f xs
   unfolding done each
   done-all f n [] h = refl
   done-all f zero (x ∷ xs) h = absurd (omega arith)
   done-all f (suc n) (x ∷ xs) h = ap (λ (l : List A). f 0 x ∷ l) (done-all (λ i. f (suc i)) n xs (omega arith))
-
-  -- after the last turn of a loop that leaves places out at the end
-  pub done-part : (f : ℕ → A → A) (n : ℕ) (xs : List A) → ((i : ℕ) (x : A) → n ≤ i → f i x ≡ x) → done f n xs ≡ each f xs
-  unfolding done each
-  done-part f n [] h = refl
-  done-part f zero (x ∷ xs) h =
-      ap (λ (y : A). y ∷ xs) (sym (h 0 x (omega arith))) ∙ ap (λ (l : List A). f 0 x ∷ l) (done-none (λ i. f (suc i)) xs ∙ done-part (λ i. f (suc i)) 0 xs (λ i y k. h (suc i) y (omega arith)))
-  done-part f (suc n) (x ∷ xs) h = ap (λ (l : List A). f 0 x ∷ l) (done-part (λ i. f (suc i)) n xs (λ i y k. h (suc i) y (omega arith)))
-
-  -- nothing changes
-  pub each-none : (f : ℕ → A → A) (xs : List A) → ((i : ℕ) (x : A) → f i x ≡ x) → each f xs ≡ xs
-  unfolding each
-  each-none f [] h = refl
-  each-none f (x ∷ xs) h = ap (λ (y : A). y ∷ each (λ i. f (suc i)) xs) (h 0 x) ∙ ap (λ (l : List A). x ∷ l) (each-none (λ i. f (suc i)) xs (λ i y. h (suc i) y))
-
-  -- one place alone changes
-  pub each-only : (f : ℕ → A → A) (xs : List A) (p : ℕ) (d : A) → ((i : ℕ) (x : A) → (i ≡ p → ⊥) → f i x ≡ x) → set xs p (f p (getD xs p d)) ≡ each f xs
-  unfolding each
-  each-only f [] p d h = refl
-  each-only f (x ∷ xs) zero d h = ap (λ (l : List A). f 0 x ∷ l) (sym (each-none (λ i. f (suc i)) xs (λ i y. h (suc i) y (λ e. omega arith))))
-  each-only f (x ∷ xs) (suc p) d h =
-      ap (λ (y : A). y ∷ set xs p (f (suc p) (getD xs p d))) (sym (h 0 x (λ e. omega arith)))
-      ∙ ap (λ (l : List A). f 0 x ∷ l) (each-only (λ i. f (suc i)) xs p d (λ i y k. h (suc i) y (λ e. k (omega arith))))
 
   -- what is read within the list does not depend on what stands past it
   pub getD-any : (xs : List A) (i : ℕ) (d e : A) → i < length xs → getD xs i d ≡ getD xs i e

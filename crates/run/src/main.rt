@@ -40,17 +40,13 @@ fn fill(buf: &mut [u8], have: usize) -> usize
 }
 
 // The last piece, where there is one that is not whole: it is a record too.
-fn finish(state: State, piece: &[u8], out: &mut [u8])
+fn finish(number: u64, piece: &[u8], out: &mut [u8])
     requires { ⌜ length (now out) ≡ 65536 ⌝ }
 {
     if piece.len() == 0 {
         return;
     }
-    let chip = state.chip;
-    let record = state.host;
-    let s = chip.step(record, piece);
-    let said = s.answer;
-    let n = answer::put_line(out, 0, state.number, said);
+    let n = block::answer_piece(number, piece, out);
     if n <= out.len() {
         io::write_all(1, &out[0..n]);
     }
@@ -65,7 +61,7 @@ fn one_turn(state: State, have: usize, buf: &mut [u8], out: &mut [u8]) -> Turn
 {
     let total = fill(buf, have);
     if total == have {
-        finish(state, &buf[0..have], out);
+        finish(state.number, &buf[0..have], out);
         return Turn {
             state: state,
             have: 0,

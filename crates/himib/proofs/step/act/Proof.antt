@@ -1,21 +1,17 @@
 use mathlib.Core.Path.{sym, ap, _∙_}
-use Rattle.himib.specs.Step.{actOn}
 use Rattle.record.specs.declared.Asked.{Asked}
+use Rattle.himib.specs.Step.{actOn}
+use Rattle.himib.proofs.HimibLaws.{isRest, rest-acts}
 use borrow.Author.Needs.{needs}
 use Rattle.himib.proofs.step.act.Statement.{statement}
 use Rattle.himib.proofs.step.act.Tie as tie
 use Rattle.himib.proofs.step.act.Reads as reads
 use Rattle.himib.proofs.step.act.Lts as lts
-use Rattle.himib.proofs.core.Core.read_c.Reads as read-c-reads
 use Rattle.himib.proofs.core.Core.read_d.Reads as read-d-reads
-use Rattle.himib.proofs.core.Core.reset.Reads as reset-reads
-use Rattle.himib.proofs.core.Core.write_d.Reads as write-d-reads
 use Rattle.himib.proofs.step.Acted.go.Reads as go-reads
-use Rattle.himib.proofs.step.Acted.turn_away.Reads as turn-away-reads
 use Rattle.himib.proofs.step.pulse.Reads as pulse-reads
+use Rattle.himib.proofs.step.rest.Reads as rest-reads
 use Rattle.himib.proofs.step.tick.Reads as tick-reads
-use Rattle.host.proofs.Host.power_up.Reads as power-up-reads
-use Rattle.host.proofs.select.Reads as select-reads
 
 enum-told : tie.Need-enum-told
 enum-told c = search needs
@@ -41,54 +37,45 @@ tick-requires c κs = search needs
 go-requires-3 : tie.Need-go-requires-3
 go-requires-3 c κs = search needs
 
-enum-known-asked-2 : tie.Need-enum-known-asked-2
-enum-known-asked-2 c = search needs
-
-select-requires : tie.Need-select-requires
-select-requires c κs = search needs
-
-go-requires-4 : tie.Need-go-requires-4
-go-requires-4 c κs = search needs
-
-enum-known-asked-3 : tie.Need-enum-known-asked-3
-enum-known-asked-3 c = search needs
-
-write-d-requires : tie.Need-write-d-requires
-write-d-requires c κs = search needs
-
 enum-told-3 : tie.Need-enum-told-3
 enum-told-3 c = search needs
 
-read-c-requires : tie.Need-read-c-requires
-read-c-requires c κs = search needs
+rest-requires : tie.Need-rest-requires
+rest-requires c κs = search needs
 
 enum-told-4 : tie.Need-enum-told-4
 enum-told-4 c = search needs
 
-read-d-requires : tie.Need-read-d-requires
-read-d-requires c κs = search needs
+rest-requires-2 : tie.Need-rest-requires-2
+rest-requires-2 c κs = search needs
 
 enum-told-5 : tie.Need-enum-told-5
 enum-told-5 c = search needs
 
-reset-requires : tie.Need-reset-requires
-reset-requires c κs = search needs
+rest-requires-3 : tie.Need-rest-requires-3
+rest-requires-3 c κs = search needs
 
-power-up-requires : tie.Need-power-up-requires
-power-up-requires c κs = search needs
+enum-told-6 : tie.Need-enum-told-6
+enum-told-6 c = search needs
 
-go-requires-5 : tie.Need-go-requires-5
-go-requires-5 c κs = search needs
+read-d-requires : tie.Need-read-d-requires
+read-d-requires c κs = search needs
 
-enum-known-asked-4 : tie.Need-enum-known-asked-4
-enum-known-asked-4 c = search needs
+enum-told-7 : tie.Need-enum-told-7
+enum-told-7 c = search needs
 
-turn-away-requires : tie.Need-turn-away-requires
-turn-away-requires c κs = search needs
+rest-requires-4 : tie.Need-rest-requires-4
+rest-requires-4 c κs = search needs
+
+enum-told-8 : tie.Need-enum-told-8
+enum-told-8 c = search needs
+
+rest-requires-5 : tie.Need-rest-requires-5
+rest-requires-5 c κs = search needs
 
 returns : tie.Need-returns
 unfolding actOn
-returns c = c .go .ensures ∙ sym (ap (λ (k : Asked). actOn k (c .before .before .before .args .core) (c .before .before .before .args .nine) (c .before .before .before .args .h)) (c .before .enum-told .given .1))
+returns c = c .go .ensures ∙ (sym (ap (λ (k : Asked). actOn k (c .before .before .before .args .core) (c .before .before .before .args .nine) (c .before .before .before .args .h)) (c .before .enum-told .given .1)))
 
 returns-2 : tie.Need-returns-2
 unfolding actOn
@@ -99,28 +86,28 @@ unfolding actOn
 returns-3 c = rw (c .go3 .ensures, c .before .tick .ensures) (sym (ap (λ (k : Asked). actOn k (c .before .before .before .before .args .core) (c .before .before .before .before .args .nine) (c .before .before .before .before .args .h)) (c .before .before .enum-told2 .given .1)))
 
 returns-4 : tie.Need-returns-4
-unfolding actOn
-returns-4 c = rw (c .go4 .ensures, c .before .select .ensures) (sym (ap (λ (k : Asked). actOn k (c .before .before .before .before .before .args .core) (c .before .before .before .before .before .args .nine) (c .before .before .before .before .before .args .h)) (c .before .before .before .asked2 .given .1)))
+unfolding isRest
+returns-4 c = c .rest .ensures ∙ rest-acts _ _ _ _ (rw (c .before .enum-told3 .given .1))
 
 returns-5 : tie.Need-returns-5
-unfolding actOn
-returns-5 c = c .write-d .ensures ∙ sym (ap (λ (k : Asked). actOn k (c .before .before .before .before .args .core) (c .before .before .before .before .args .nine) (c .before .before .before .before .args .h)) (c .before .before .asked3 .given .1))
+unfolding isRest
+returns-5 c = c .rest2 .ensures ∙ rest-acts _ _ _ _ (rw (c .before .enum-told4 .given .1))
 
 returns-6 : tie.Need-returns-6
-unfolding actOn
-returns-6 c = c .read-c .ensures ∙ sym (ap (λ (k : Asked). actOn k (c .before .before .before .args .core) (c .before .before .before .args .nine) (c .before .before .before .args .h)) (c .before .enum-told3 .given .1))
+unfolding isRest
+returns-6 c = c .rest3 .ensures ∙ rest-acts _ _ _ _ (rw (c .before .enum-told5 .given .1))
 
 returns-7 : tie.Need-returns-7
 unfolding actOn
-returns-7 c = c .read-d .ensures ∙ sym (ap (λ (k : Asked). actOn k (c .before .before .before .args .core) (c .before .before .before .args .nine) (c .before .before .before .args .h)) (c .before .enum-told4 .given .1))
+returns-7 c = c .read-d .ensures ∙ (sym (ap (λ (k : Asked). actOn k (c .before .before .before .args .core) (c .before .before .before .args .nine) (c .before .before .before .args .h)) (c .before .enum-told6 .given .1)))
 
 returns-8 : tie.Need-returns-8
-unfolding actOn
-returns-8 c = rw (c .go5 .ensures, c .before .power-up .ensures, c .before .before .reset .ensures) (sym (ap (λ (k : Asked). actOn k (c .before .before .before .before .before .args .core) (c .before .before .before .before .before .args .nine) (c .before .before .before .before .before .args .h)) (c .before .before .before .enum-told5 .given .1)))
+unfolding isRest
+returns-8 c = c .rest4 .ensures ∙ rest-acts _ _ _ _ (rw (c .before .enum-told7 .given .1))
 
 returns-9 : tie.Need-returns-9
-unfolding actOn
-returns-9 c = c .turn-away .ensures ∙ sym (ap (λ (k : Asked). actOn k (c .before .before .before .before .args .core) (c .before .before .before .before .args .nine) (c .before .before .before .before .args .h)) (c .before .before .asked4 .given .1))
+unfolding isRest
+returns-9 c = c .rest5 .ensures ∙ rest-acts _ _ _ _ (rw (c .before .enum-told8 .given .1))
 
 pub act-spec : {M : Type 1} → statement M
 act-spec =
@@ -134,21 +121,18 @@ act-spec =
     enum-told-2
     tick-requires
     go-requires-3
-    enum-known-asked-2
-    select-requires
-    go-requires-4
-    enum-known-asked-3
-    write-d-requires
     enum-told-3
-    read-c-requires
+    rest-requires
     enum-told-4
-    read-d-requires
+    rest-requires-2
     enum-told-5
-    reset-requires
-    power-up-requires
-    go-requires-5
-    enum-known-asked-4
-    turn-away-requires
+    rest-requires-3
+    enum-told-6
+    read-d-requires
+    enum-told-7
+    rest-requires-4
+    enum-told-8
+    rest-requires-5
     returns
     returns-2
     returns-3

@@ -1,12 +1,10 @@
-use Rattle.himib.specs.Bursts.{burstCore}
 use borrow.Author.Needs.{needs}
-use Rattle.himib.proofs.core.Core.burst.Statement.{statement}
-use Rattle.himib.proofs.core.Core.burst.Tie as tie
-use Rattle.himib.proofs.core.Core.burst.Reads as reads
-use Rattle.himib.proofs.core.Core.burst.Lts as lts
+use Rattle.himib.proofs.core.Core.total.Statement.{statement}
+use Rattle.himib.proofs.core.Core.total.Tie as tie
+use Rattle.himib.proofs.core.Core.total.Reads as reads
+use Rattle.himib.proofs.core.Core.total.Lts as lts
 use Rattle.attributes.proofs.octets.Reads as octets-reads
 use Rattle.attributes.proofs.transmit_collisions.Reads as transmit-collisions-reads
-use Rattle.himib.proofs.core.Core.move_to.Reads as move-to-reads
 use Rattle.std.proofs.num.wrapping_add_u32.Reads as wrapping-add-u32-reads
 
 transmit-collisions-requires : tie.Need-transmit-collisions-requires
@@ -21,20 +19,15 @@ octets-requires c κs = search needs
 wrapping-add-u32-requires-2 : tie.Need-wrapping-add-u32-requires-2
 wrapping-add-u32-requires-2 c κs = search needs
 
-move-to-requires : tie.Need-move-to-requires
-move-to-requires c κs = search needs
-
 returns : tie.Need-returns
-unfolding burstCore
-returns c = rw (c .move-to .ensures, c .before .wrapping-add-u322 .ensures, c .before .before .octets .ensures, c .before .before .before .wrapping-add-u32 .ensures, c .before .before .before .before .transmit-collisions .ensures)
+returns c = rw (c .wrapping-add-u322 .ensures, c .before .octets .ensures, c .before .before .wrapping-add-u32 .ensures, c .before .before .before .transmit-collisions .ensures)
 
-pub burst-spec : {M : Type 1} → statement M
-burst-spec =
+pub total-spec : {M : Type 1} → statement M
+total-spec =
     tie.close
     (tie.spec
     transmit-collisions-requires
     wrapping-add-u32-requires
     octets-requires
     wrapping-add-u32-requires-2
-    move-to-requires
     returns)

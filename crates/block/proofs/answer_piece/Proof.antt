@@ -1,0 +1,28 @@
+use mathlib.Core.Path.{refl, _∙_}
+use Rattle.block.proofs.BlockLaws.{piece-refused}
+use borrow.Author.Needs.{needs}
+use Rattle.block.proofs.answer_piece.Statement.{statement}
+use Rattle.block.proofs.answer_piece.Tie as tie
+use Rattle.block.proofs.answer_piece.Reads as reads
+use Rattle.block.proofs.answer_piece.Lts as lts
+use Rattle.answer.proofs.put_line.Reads as put-line-reads
+
+returns : tie.Need-returns
+returns c = record { line = λ n. absurd (n (c .if1 .taken)); none = λ e. (refl, refl) }
+
+put-line-requires : tie.Need-put-line-requires
+put-line-requires c κs = search needs
+
+same-length : tie.Need-same-length
+same-length c = search needs
+
+returns-2 : tie.Need-returns-2
+returns-2 c =
+    let put = c .before .before .put-line .ensures in
+    record {
+      line = λ n s h. (put .next ∙ rw (piece-refused s h (c .before .before .before .before .before .before .before .args .piece .now) n), put .bytes ∙ rw (piece-refused s h (c .before .before .before .before .before .before .before .args .piece .now) n));
+      none = λ e. absurd (c .before .before .before .before .if1 .left e);
+    }
+
+pub answer-piece-spec : {M : Type 1} → statement M
+answer-piece-spec = tie.close (tie.spec returns put-line-requires same-length returns-2)

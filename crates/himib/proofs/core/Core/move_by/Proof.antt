@@ -1,0 +1,27 @@
+use borrow.Author.Needs.{needs}
+use Rattle.himib.proofs.core.Core.move_by.Statement.{statement}
+use Rattle.himib.proofs.core.Core.move_by.Tie as tie
+use Rattle.himib.proofs.core.Core.move_by.Reads as reads
+use Rattle.himib.proofs.core.Core.move_by.Lts as lts
+use Rattle.himib.proofs.core.events.Reads as events-reads
+use Rattle.himib.proofs.core.note.Reads as note-reads
+use Rattle.repeater.proofs.repeater.Repeater.linked.Reads as linked-reads
+
+linked-requires : tie.Need-linked-requires
+linked-requires c κs = search needs
+
+linked-requires-2 : tie.Need-linked-requires-2
+linked-requires-2 c κs = search needs
+
+events-requires : tie.Need-events-requires
+events-requires c κs = search needs
+
+note-requires : tie.Need-note-requires
+note-requires c κs = search needs
+
+returns : tie.Need-returns
+returns c = rw (c .note .ensures, c .before .events .ensures, c .before .before .linked2 .ensures, c .before .before .before .linked .ensures)
+
+pub move-by-spec : {M : Type 1} → statement M
+move-by-spec =
+    tie.close (tie.spec linked-requires linked-requires-2 events-requires note-requires returns)
