@@ -1,11 +1,11 @@
-// What a burst is for one port: sent data, clean, reconnecting.
+// What a burst is for the ports: which it sends data to, is clean for, connects again.
 ghost use mathlib.Core.Path.{_≡_};
-ghost use Rattle.repeater.specs.Partition.{isJam, isRep, dataTo, cleanAt, reconnectingAt, meetingOf};
+ghost use Rattle.ports.specs.Sets.{setOf};
+ghost use Rattle.repeater.specs.Partition.{isJam, isRep, dataTo, cleanAt, reconnectingAt};
 use crate::burst::Burst;
 use crate::burst::Effect;
 use crate::burst::Hearing;
 use crate::burst::Word;
-use crate::port::Meeting;
 use crate::port::Port;
 
 fn is_jam(w: Word) -> bool
@@ -29,62 +29,39 @@ fn is_rep(w: Word) -> bool
 }
 
 impl Effect {
-    // Whether data goes out to port i.
-    pub fn data_to(self, i: usize) -> bool
-        ensures { λ r. ⌜ r ≡ dataTo self i ⌝ }
+    // The ports that data goes out to.
+    fn data(self) -> u16
+        ensures { λ r. ⌜ r ≡ setOf (dataTo self) ⌝ }
     {
         let w = self.word;
         if is_rep(w) {
-            return ports::contains(self.out, i);
+            return self.out;
         }
-        false
+        0
     }
 
-    // Whether the burst is clean for port i.
-    pub fn clean_at(self, g: Hearing, i: usize) -> bool
-        ensures { λ r. ⌜ r ≡ cleanAt g self i ⌝ }
+    // The ports that the burst is clean for.
+    pub fn clean(self, g: Hearing) -> u16
+        ensures { λ r. ⌜ r ≡ setOf (cleanAt g self) ⌝ }
     {
         let w = self.word;
         if is_jam(w) {
-            return false;
+            return 0;
         }
-        if ports::contains(self.collided, i) {
-            return false;
-        }
-        if ports::contains(g.e, i) {
-            return true;
-        }
-        self.data_to(i)
+        ports::less(g.e | self.data(), self.collided)
     }
 
-    // Whether the burst connects port i again if it is partitioned.
-    pub fn reconnecting_at(self, g: Hearing, b: Burst, alternate: bool, i: usize) -> bool
-        ensures { λ r. ⌜ r ≡ reconnectingAt g self b alternate i ⌝ }
+    // The ports that the burst connects again if they are partitioned.
+    pub fn reconnecting(self, g: Hearing, b: Burst, alternate: bool) -> u16
+        ensures { λ r. ⌜ r ≡ setOf (reconnectingAt g self b alternate) ⌝ }
     {
-        if self.clean_at(g, i) {
-            if Port::RECONNECT < b.d {
-                if alternate {
-                    return self.data_to(i);
-                }
-                return true;
+        if Port::RECONNECT < b.d {
+            let clean = self.clean(g);
+            if alternate {
+                return clean & self.data();
             }
-            return false;
+            return clean;
         }
-        false
-    }
-
-    // What the burst is for port i.
-    pub fn meeting(self, g: Hearing, b: Burst, alternate: bool, i: usize) -> Meeting
-        ensures { λ r. ⌜ r ≡ meetingOf g self b alternate i ⌝ }
-    {
-        let collided = ports::contains(self.collided, i);
-        let clean = self.clean_at(g, i);
-        let reconnecting = self.reconnecting_at(g, b, alternate, i);
-        Meeting {
-            collided: collided,
-            clean: clean,
-            reconnecting: reconnecting,
-            x: b.x,
-        }
+        0
     }
 }

@@ -2,20 +2,24 @@
 ghost use Prim.Native.Nat.{_+_, _*_, _%_, _≤_, _<_};
 ghost use mathlib.Core.Path.{_≡_};
 ghost use mathlib.Core.Bool.{cond};
+ghost use lib.Dec.{eqb};
 ghost use lib.ListN.{getD, set};
+ghost use Rattle.ports.specs.Sets.{has};
 ghost use Rattle.ports.specs.Each.{each};
 ghost use Rattle.repeater.specs.Port.{noPort};
 ghost use Rattle.repeater.specs.Reset.{powerUp};
 ghost use Rattle.repeater.specs.Burst.{transmits, listens, hearingOf};
 ghost use Rattle.repeater.specs.Link.{tickedAt, pulsedAt, revivedAt};
+ghost use Rattle.repeater.specs.Partition.{afterMeeting};
 ghost use Rattle.repeater.specs.Commands.{changed, bit, auiByte, answerOf, clearedBy};
-ghost use Rattle.repeater.specs.Repeater.{alternateFor, partitionedAt, portAfter, followed, burstOf, tickedAll, pulsedAll, changedAt, changedTp, setTo, gotOf, among, thoseOf, partitionedOf, linkedOf, enabledOf};
+ghost use Rattle.repeater.specs.Repeater.{portAfter, followed, burstOf, tickedAll, pulsedAll, changedAt, changedTp, setTo, gotOf, among, thoseOf, partitionedOf, linkedOf, enabledOf};
 use crate::burst::Burst;
 use crate::burst::Effect;
 use crate::burst::Hearing;
 use crate::commands::Query;
 use crate::commands::Setting;
 use crate::port::Change;
+use crate::port::Meeting;
 use crate::port::Port;
 use crate::status::Status;
 
@@ -173,27 +177,31 @@ fn revive_at(mask: u16, i: usize, p: Port) -> Port
     p
 }
 
-// A port's partition step after a burst, if it is in T.
-fn meet_at(g: Hearing, f: Effect, b: Burst, alternate: bool, i: usize, p: Port) -> Port
-    ensures { λ r. ⌜ r ≡ partitionedAt g f b alternate i p ⌝ }
+// What a burst is for port i, from the sets of the ports that collide, that it is clean for, and that it connects again.
+fn meeting(collided: u16, clean: u16, back: u16, x: u32, i: usize) -> Meeting
+    ensures { λ r. ⌜ r ≡ record { collided = has collided i; clean = has clean i; reconnecting = has back i; x = x } ⌝ }
 {
-    if ports::contains(g.t, i) {
-        return p.meet(f.meeting(g, b, alternate, i));
+    Meeting {
+        collided: ports::contains(collided, i),
+        clean: ports::contains(clean, i),
+        reconnecting: ports::contains(back, i),
+        x: x,
+    }
+}
+
+// A port's partition step after a burst that is this for it, if it is in T.
+fn meet_at(t: u16, m: Meeting, i: usize, p: Port) -> Port
+    ensures { λ r. ⌜ r ≡ cond (has t i) (afterMeeting m p) p ⌝ }
+{
+    if ports::contains(t, i) {
+        return p.meet(m);
     }
     p
 }
 
-// A port after a burst.
-fn port_after(alternate: bool, g: Hearing, f: Effect, b: Burst, i: usize, p: Port) -> Port
-    ensures { λ r. ⌜ r ≡ revivedAt (b .mask) i (partitionedAt g f b alternate i p) ⌝ }
-{
-    let q = meet_at(g, f, b, alternate, i, p);
-    revive_at(b.mask, i, q)
-}
-
-// The algorithm that port i goes by.
-fn algorithm(aui: bool, tp: bool, i: usize) -> bool
-    ensures { λ r. ⌜ r ≡ alternateFor aui tp i ⌝ }
+// Of two sets, by AUI's algorithm and by the TP ports', the one that port i goes by.
+fn algorithm(aui: u16, tp: u16, i: usize) -> u16
+    ensures { λ r. ⌜ r ≡ cond (eqb i 8) aui tp ⌝ }
 {
     if i == Burst::AUI {
         return aui;
@@ -204,10 +212,15 @@ fn algorithm(aui: bool, tp: bool, i: usize) -> bool
 fn ports_after(ports: [Port; 9], aui: bool, tp: bool, g: Hearing, f: Effect, b: Burst) -> [Port; 9]
     ensures { λ r. ⌜ r ≡ each (portAfter aui tp g f b) ports ⌝ }
 {
+    let clean = f.clean(g);
+    let back_aui = f.reconnecting(g, b, aui);
+    let back_tp = f.reconnecting(g, b, tp);
     let mut out = ports;
     for i in 0..9 {
         let p = out[i];
-        out[i] = port_after(algorithm(aui, tp, i), g, f, b, i, p);
+        let m = meeting(f.collided, clean, algorithm(back_aui, back_tp, i), b.x, i);
+        let q = meet_at(g.t, m, i, p);
+        out[i] = revive_at(b.mask, i, q);
     }
     out
 }

@@ -1,4 +1,3 @@
-use Rattle.repeater.specs.Repeater.{alternateFor}
 use borrow.Author.Tests.{eq-eqb, ne-eqb}
 use Rattle.repeater.proofs.repeater.algorithm.Statement.{statement}
 use Rattle.repeater.proofs.repeater.algorithm.Tie as tie
@@ -6,11 +5,9 @@ use Rattle.repeater.proofs.repeater.algorithm.Reads as reads
 use Rattle.repeater.proofs.repeater.algorithm.Lts as lts
 
 returns : tie.Need-returns
-unfolding alternateFor
 returns c = simp (eq-eqb _ _ (c .if1 .taken))
 
 returns-2 : tie.Need-returns-2
-unfolding alternateFor
 returns-2 c = simp (ne-eqb _ _ (c .if1 .left))
 
 pub algorithm-spec : {M : Type 1} → statement M
