@@ -1,7 +1,7 @@
 #!/usr/bin/env python3
 """Measures a program against the model in plain Rust, on the same traces in the same run.
 
-    bench.py [PROGRAM] [--records N] [--rounds N] [--without-counts] [--without-memory]
+    bench.py [PROGRAM] [--records N] [--rounds N] [--copy] [--without-counts] [--without-memory]
 
 PROGRAM is target/bin/run unless named; the word 'model' measures the model against itself. See README.md.
 """
@@ -20,10 +20,12 @@ from pathlib import Path
 TESTS = Path(__file__).resolve().parent.parent / "tests"
 sys.path.insert(0, str(TESTS))
 
+import native
 import program
 import record as rec
 
 COUNTED = 100_000
+FEW = 1_000
 MANY = 10_000_000
 BLOCK = 10_000
 UP = [rec.PULSES[255]] * 4
@@ -169,6 +171,35 @@ def measure_instructions(contestants, folder):
     show(f"instructions a record (callgrind, {COUNTED:,} records, start-up taken off)", "  ", rows)
 
 
+# ---- stack
+
+def deepest(valgrind, words, path, folder):
+    """The most stack in bytes, as valgrind sees it."""
+    snapshots = folder / "massif"
+    with open(path, "rb") as trace:
+        done = subprocess.run(
+            [valgrind, "--tool=massif", "--stacks=yes", "--heap=no", "--detailed-freq=1000", f"--massif-out-file={snapshots}", *words],
+            stdin=trace, stdout=subprocess.DEVNULL, stderr=subprocess.PIPE, text=True)
+    found = re.findall(r"mem_stacks_B=(\d+)", snapshots.read_text()) if done.returncode == 0 else []
+    if not found:
+        program.give_up(f"valgrind saw no stack: {done.stderr[-500:]}")
+    return max(map(int, found))
+
+
+def measure_stack(contestants, folder):
+    valgrind = shutil.which("valgrind")
+    if valgrind is None:
+        print("\nstack: not measured, there is no valgrind on the path")
+        return
+    empty = folder / "empty"
+    empty.write_bytes(b"")
+    path = written(folder / "trace", "bursts", FEW)
+    print("\nstack at its deepest: no input, and bursts")
+    for who, words in contestants.items():
+        none, bursts = deepest(valgrind, words, empty, folder), deepest(valgrind, words, path, folder)
+        print(f"{who:12}{none:>8,} B{bursts:>10,} B", flush=True)
+
+
 # ---- memory
 
 def peak(words, records):
@@ -216,22 +247,22 @@ def main():
     parser.add_argument("program", nargs="?", default=str(program.PROVED), help="a path, or 'model' (default: target/bin/run)")
     parser.add_argument("--records", type=int, default=1_000_000, help="records in each trace (default 1,000,000)")
     parser.add_argument("--rounds", type=int, default=9, help="runs of each, of which the best counts (default 9)")
-    parser.add_argument("--without-counts", action="store_true", help="no counting of instructions")
+    parser.add_argument("--copy", action="store_true", help="measure a copy compiled for this machine, as is done where it isn't x86-64")
+    parser.add_argument("--without-counts", action="store_true", help="no counting of instructions and stack")
     parser.add_argument("--without-memory", action="store_true", help="no measuring of memory")
     words = parser.parse_args()
     contestants = {"program": program.named(words.program), "model": [str(program.model())]}
-    emulated = len(contestants["program"]) > 1
-    if emulated:
-        print("The program runs under an emulator on this machine, the model does not: the ratios of time say little.")
     with tempfile.TemporaryDirectory(prefix="bench.") as name:
         folder = Path(name)
+        if words.copy or len(contestants["program"]) > 1:
+            print("Measured is a copy of the proved program, compiled for this machine.")
+            contestants["program"] = [str(native.copy(folder))]
         measure_time(contestants, folder, words.records, words.rounds)
-        if emulated:
-            print("\ninstructions a record: not counted under an emulator")
-        elif not words.without_counts:
+        if not words.without_counts:
             measure_instructions(contestants, folder)
-    if not words.without_memory:
-        measure_memory(contestants)
+            measure_stack(contestants, folder)
+        if not words.without_memory:
+            measure_memory(contestants)
 
 
 if __name__ == "__main__":

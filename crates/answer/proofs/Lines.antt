@@ -1,4 +1,4 @@
--- Lines one behind the other, and what a caller has of `put_line`'s contract. Assumes nothing.
+-- Lines one behind the other, and what a caller has of `put_line`'s contract, its parts `next` and `bytes`. Assumes nothing.
 --   lines-append, lines-one == the lines of a longer list of answers
 --   lines-length-le, lines-length-ge == how long lines are together
 --   room-left  == what room is
@@ -20,7 +20,7 @@ use Rattle.answer.specs.declared.Answer.{Answer}
 use Rattle.answer.specs.declared.Answer.the-variants.{Done}
 use Rattle.answer.specs.Answer.{numberOf}
 use Rattle.answer.specs.Line.{lineOf, linesOf}
-use Rattle.answer.specs.Put.{WrittenLine, hasRoom, laid, afterLine, withLine}
+use Rattle.answer.specs.Put.{hasRoom, laid, afterLine, withLine}
 use Rattle.answer.proofs.Lengths.{line-length-le, line-length-ge}
 
 pub lines-append : (n : ℕ) (xs ys : List Answer) → linesOf n (xs ++ ys) ≡ linesOf n xs ++ linesOf (n + length xs) ys
@@ -60,14 +60,14 @@ room-left old at h = go (leb at (length old)) (leb 32 (length old - at)) refl re
     go true false p q r = absurd (false≢true r)
     go false b p q r = absurd (false≢true r)
 
-module _ (old new : List ℕ) (at n r : ℕ) (a : Answer) (w : WrittenLine old at n a new r) where
+module _ (old new : List ℕ) (at n r : ℕ) (a : Answer) (next : r ≡ afterLine old at n a) (bytes : new ≡ withLine old at n a) where
   pub next-place : hasRoom old at ≡ true → r ≡ at + length (lineOf n a)
   unfolding afterLine
-  next-place h = w .next ∙ rw h
+  next-place h = next ∙ rw h
 
   now-holds : hasRoom old at ≡ true → new ≡ take at old ++ lineOf n a ++ drop (at + length (lineOf n a)) old
   unfolding withLine laid
-  now-holds h = w .bytes ∙ rw h
+  now-holds h = bytes ∙ rw h
 
   front-length : hasRoom old at ≡ true → length (take at old ++ lineOf n a) ≡ r
   front-length h =
@@ -84,10 +84,10 @@ module _ (old new : List ℕ) (at n r : ℕ) (a : Answer) (w : WrittenLine old a
 
   pub not-put : hasRoom old at ≡ false → (r ≡ at) × (new ≡ old)
   unfolding afterLine withLine
-  not-put h = (w .next ∙ rw h, w .bytes ∙ rw h)
+  not-put h = (next ∙ rw h, bytes ∙ rw h)
 
-  pub kept-length : length new ≡ length old
-  kept-length = go (hasRoom old at) refl
+  pub kept-length : r ≤ at + 29 → length new ≡ length old
+  kept-length short = go (hasRoom old at) refl
     where
       go : (b : Bool) → hasRoom old at ≡ b → length new ≡ length old
       go false h = ap length (not-put h .1)
@@ -95,7 +95,6 @@ module _ (old new : List ℕ) (at n r : ℕ) (a : Answer) (w : WrittenLine old a
           let e : length (take at old ++ lineOf n a) ≡ r = front-length h in
           let p : r ≡ at + length (lineOf n a) = next-place h in
           let l : (at ≤ length old) × (32 ≤ length old - at) = room-left old at h in
-          let s : r ≤ at + 29 = w .short in
           rw (now-holds h, length-append (take at old ++ lineOf n a) (drop (at + length (lineOf n a)) old), e, length-drop (at + length (lineOf n a)) old)
           (omega arith)
 

@@ -40,9 +40,9 @@ module _ (s : List ℕ) (w : Work) where
   worked-full zero e = refl
   worked-full (suc k) e = rw e
 
-  one : (k : ℕ) → hasRoom (w .out) (w .used) ≡ true → worked (suc k) s w ≡ worked k s (afterRecord s w)
+  pub worked-one : (k : ℕ) → hasRoom (w .out) (w .used) ≡ true → worked (suc k) s w ≡ worked k s (afterRecord s w)
   unfolding worked
-  one k e = rw e
+  worked-one k e = rw e
 
   pub worked-end : length s - w .at < 32 → w ≡ worked ((length s - w .at) / 32) s w
   unfolding worked
@@ -51,7 +51,7 @@ module _ (s : List ℕ) (w : Work) where
   pub worked-more : 32 ≤ length s - w .at → hasRoom (w .out) (w .used) ≡ true → worked ((length s - w .at) / 32) s w ≡ worked ((length s - (w .at + 32)) / 32) s (afterRecord s w)
   worked-more h e =
       let z : (length s - w .at) / 32 ≡ suc ((length s - (w .at + 32)) / 32) = omega arith in
-      rw z (one ((length s - (w .at + 32)) / 32) e)
+      rw z (worked-one ((length s - (w .at + 32)) / 32) e)
 
   -- a turn of the loop
   pub turned : (total : Work) (t : Stepped) (part : List ℕ) (next n u : ℕ) (o : List ℕ) → w .at ≤ length s → 32 ≤ length s - w .at → w .used ≤ length (w .out)

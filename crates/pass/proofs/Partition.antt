@@ -20,10 +20,10 @@ use Rattle.repeater.specs.declared.repeater.Repeater.{Repeater}
 use Rattle.repeater.specs.declared.repeater.Those.the-variants.{Partitioned}
 use Rattle.repeater.specs.Repeater.{setTo, gotOf, tickedAll, pulsedAll, burstOf, among, enabledOf, partitionedOf}
 use Rattle.repeater.specs.Port.{noPort}
-use Rattle.repeater.specs.History.{Event, collided, neither, cleared, Standing, connected, partitioned, afterEvent, since, Struck, long, many, isPartitioned, struck}
+use Rattle.history.specs.History.{Event, collided, neither, cleared, Standing, connected, partitioned, afterEvent, since, Struck, long, many, isPartitioned, struck}
 use Rattle.repeater.specs.Events.{standingOf, standingAt, eventOf, followedEvent, burstEvent, setEvent}
 use Rattle.repeater.proofs.RepeaterLaws.{those-has}
-use Rattle.repeater.proofs.Past.{Keeps, told-exactly}
+use Rattle.history.proofs.Past.{Keeps, told-exactly}
 use Rattle.repeater.proofs.Events.{burst-moves, tick-moves, pulse-moves, get-moves, set-moves, reset-moves, up-connected}
 use Rattle.host.specs.declared.Host.{Host}
 use Rattle.attributes.specs.declared.Attributes.{Attributes}
@@ -190,6 +190,6 @@ partition-by-past nine collisions octets rs i l =
     told-exactly (λ (p : Point). Unit) (λ p. standingAt (repeaterAt p) i) (λ p bs. happening p bs .after) (λ p bs. eventAt i (happening p bs)) run
     (λ p rs. map (eventAt i) (history p rs)) (keeps i m) (start nine collisions octets) rs tt (up-connected i) in
     record {
-      there = λ h. t .forth (is-partitioned (standingAt (repeaterAt p) i) (sym (test-at (repeaterAt p) i m) ∙ h));
+      forth = λ h. t .forth (is-partitioned (standingAt (repeaterAt p) i) (sym (test-at (repeaterAt p) i m) ∙ h));
       back = λ k. test-at (repeaterAt p) i m ∙ ap isPartitioned (t .back k);
     }

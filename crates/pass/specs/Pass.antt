@@ -17,7 +17,8 @@ use Rattle.record.specs.Refusals.{recordOf}
 use Rattle.repeater.specs.declared.repeater.Bursted.{Bursted}
 use Rattle.repeater.specs.Repeater.{burstOf, partitionedOf}
 use Rattle.repeater.specs.Events.{burstEvent}
-use Rattle.repeater.specs.History.{Event, neither, cleared, since, Struck}
+use Rattle.history.specs.Exactly.{Exactly}
+use Rattle.history.specs.History.{Event, neither, cleared, since, Struck}
 use Rattle.host.specs.declared.Host.{Host}
 use Rattle.host.specs.declared.Register.{Register}
 use Rattle.host.specs.declared.Register.the-variants as reg
@@ -35,7 +36,7 @@ use Rattle.himib.specs.Bursts.{wired}
 use Rattle.himib.specs.Access.{selectedBy, valueOf, addressOf}
 use Rattle.himib.specs.Step.{stepOf}
 use Rattle.himib.specs.Octets.{differenceOf, checkOf}
-use Rattle.pass.specs.Runs.{Exactly, Point, Happening, happening, history, run, start, Given, asked, source, kindOf, accepted, selects, writes, reads, resets, ifBurst, repeaterAt, partitionedAt, linkedAt, enabledAt, counterAt, transmitCollisions, totalOctets, addressAt}
+use Rattle.pass.specs.Runs.{Point, Happening, happening, history, run, start, Given, asked, source, kindOf, accepted, selects, writes, reads, resets, ifBurst, repeaterAt, partitionedAt, linkedAt, enabledAt, counterAt, transmitCollisions, totalOctets, addressAt}
 
 -- ---- Demand 1: every record is answered, and what is turned away changes nothing
 

@@ -30,11 +30,6 @@ use Rattle.himib.specs.declared.step.Stepped.{Stepped}
 use Rattle.himib.specs.Chip.{chipUp}
 use Rattle.himib.specs.Step.{stepOf}
 
--- both ways
-pub record Exactly (A B : Type 0) : Type 0 where
-  pub there : A → B
-  pub back : B → A
-
 -- ---- Runs and their histories
 
 -- where a run stands: the chip and the host's record

@@ -17,7 +17,7 @@ use native.Mathlib.Omega.{arith}
 use lib.Dec.{eqb, ltb, leb, eqb·suc-suc}
 use lib.ListN.{length, getD, set, replicate, List·getD-eq-default}
 use Rattle.ports.specs.Sets.{aui, has}
-use Rattle.ports.specs.Exactly.{Exactly}
+use Rattle.history.specs.Exactly.{Exactly}
 use Rattle.ports.proofs.Sets.{set-false, and-first}
 use Rattle.ports.proofs.Each.{each-at, set-keeps}
 use Rattle.repeater.specs.declared.port.Port.{Port}
@@ -38,11 +38,11 @@ use Rattle.repeater.specs.Burst.{inT, hearingOf, effectOf}
 use Rattle.repeater.specs.Partition.{cleanAt, reconnectingAt, meetingOf, partitioning, afterMeeting}
 use Rattle.repeater.specs.Commands.{changed}
 use Rattle.repeater.specs.Repeater.{tickedAll, pulsedAll, alternateFor, partitionedAt, portAfter, followed, burstOf, changedAt, changedTp, setTo, gotOf, among}
-use Rattle.repeater.specs.History.{neither, cleared, Standing, connected, partitioned, afterEvent, since, Struck}
+use Rattle.history.specs.History.{neither, cleared, Standing, connected, partitioned, afterEvent, since, Struck}
 use Rattle.repeater.specs.Events.{standingOf, standingAt, eventOf, followedEvent, burstEvent, disables, setEvent}
 use Rattle.repeater.specs.Events.{Input, burst, pulse, tick, setting, query, reset, afterInput, inputEvent, afterInputs, inputEvents}
 use Rattle.repeater.proofs.RepeaterLaws.{past-among}
-use Rattle.repeater.proofs.Past.{Keeps, told-exactly}
+use Rattle.history.proofs.Past.{Keeps, told-exactly}
 use Rattle.repeater.proofs.Kept.{Unlinked, revived-at-keeps, ticks-keep, pulses-keep, ports-bursted}
 
 -- WHAT A BURST IS TO A PORT

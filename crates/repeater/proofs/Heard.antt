@@ -13,7 +13,7 @@ use borrow.Author.Tests.{ne-eqb}
 use lib.Dec.{eqb}
 use lib.Count.{ones, trailingZeros}
 use Rattle.ports.specs.Sets.{aui, has, setOf, None, Only, Several}
-use Rattle.ports.specs.Exactly.{Exactly}
+use Rattle.history.specs.Exactly.{Exactly}
 use Rattle.ports.proofs.Sets.{count-none, count-one, count-several, none-only, none-several, only-several, only-same, gather-lt, has-gather, set-true, and-first, and-second}
 use Rattle.repeater.specs.declared.port.Port.{Port}
 use Rattle.repeater.specs.declared.burst.Burst.{Burst}

@@ -6,7 +6,6 @@ pub mod CommandLaws
 pub mod RepeaterLaws
 pub mod StatusLaws
 pub mod Kept
-pub mod Past
 pub mod Events
 pub mod Heard
 pub mod Sound

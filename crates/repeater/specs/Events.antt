@@ -27,7 +27,7 @@ use Rattle.repeater.specs.Reset.{powerUp}
 use Rattle.repeater.specs.Burst.{hearingOf, effectOf}
 use Rattle.repeater.specs.Partition.{meetingOf}
 use Rattle.repeater.specs.Repeater.{alternateFor, tickedAll, pulsedAll, burstOf, setTo, gotOf}
-use Rattle.repeater.specs.History.{Event, collided, clean, neither, cleared, Standing, connected, partitioned}
+use Rattle.history.specs.History.{Event, collided, clean, neither, cleared, Standing, connected, partitioned}
 
 abbrev pub standingOf : Port → Standing
 standingOf p = cond (p .partitioned) partitioned (connected (p .count))

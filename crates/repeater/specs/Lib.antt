@@ -7,7 +7,6 @@ pub mod Link
 pub mod Status
 pub mod Commands
 pub mod Repeater
-pub mod History
 pub mod Events
 pub mod Sound
 pub mod Sheet

@@ -24,7 +24,7 @@ use Rattle.repeater.specs.declared.repeater.Repeater.{Repeater}
 use Rattle.repeater.specs.Port.{noPort}
 use Rattle.repeater.specs.Reset.{powerUp}
 use Rattle.repeater.specs.Repeater.{burstOf}
-use Rattle.repeater.specs.History.{Event, collided, clean, neither, cleared, Standing, connected, partitioned}
+use Rattle.history.specs.History.{Event, collided, clean, neither, cleared, Standing, connected, partitioned}
 use Rattle.repeater.specs.Events.{standingAt, Input, burst, pulse, tick, setting, reset, afterInputs}
 
 abbrev pub activity : ℕ → Bool → Bool → ℕ → ℕ → Burst

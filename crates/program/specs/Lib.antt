@@ -1,0 +1,2 @@
+-- What the program does is what the demands speak of.
+pub mod Program
