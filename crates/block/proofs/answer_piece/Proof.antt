@@ -1,4 +1,6 @@
-use mathlib.Core.Path.{refl, _∙_}
+use mathlib.Core.Path.{refl, ap, _∙_}
+use Rattle.answer.specs.declared.Answer.{Answer}
+use Rattle.answer.specs.Put.{afterLine, withLine}
 use Rattle.block.proofs.BlockLaws.{piece-refused}
 use borrow.Author.Needs.{needs}
 use Rattle.block.proofs.answer_piece.Statement.{statement}
@@ -19,8 +21,12 @@ same-length c = search needs
 returns-2 : tie.Need-returns-2
 returns-2 c =
     let put = c .before .before .put-line .ensures in
+    let args = c .before .before .before .before .before .before .before .args in
     record {
-      line = λ n s h. (put .next ∙ rw (piece-refused s h (c .before .before .before .before .before .before .before .args .piece .now) n), put .bytes ∙ rw (piece-refused s h (c .before .before .before .before .before .before .before .args .piece .now) n));
+      line = λ n s h. (
+        put .next ∙ ap (λ (a : Answer). afterLine (args .out .now) 0 (args .number) a) (piece-refused s h (args .piece .now) n),
+        put .bytes ∙ ap (λ (a : Answer). withLine (args .out .now) 0 (args .number) a) (piece-refused s h (args .piece .now) n),
+      );
       none = λ e. absurd (c .before .before .before .before .if1 .left e);
     }
 
