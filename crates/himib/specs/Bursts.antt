@@ -37,7 +37,7 @@ cutBy c t = without (partitionedOf (t .repeater)) (partitionedOf (c .repeater))
 abbrev pub counted32 : ℕ → ℕ → ℕ
 counted32 n credit = (n + credit) % 2 ^ 32
 
--- the core d with the chip's two counters, which were those of c
+-- the core d with what a burst makes of the chip's two counters in the core c
 abbrev pub totalled : Core → Core → Hearing → Effect → Burst → Core
 totalled c d g f b =
     withTotals d

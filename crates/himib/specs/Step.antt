@@ -1,5 +1,5 @@
 -- Document 01 as a whole: one record, any bytes at all, on a chip and a host's record.
---   actOn a ..    == every kind but a burst; restOn has those that touch neither the repeater's clock nor a counter's value
+--   actOn a ..    == every kind but a burst; restOn a .. == those that are no ticks, link pulses or D reads either
 --   readdressed   == the attributes after a completed address write, which is no change
 --   stepOf s h bs == the chip, the host's record and the answer after the bytes bs
 -- Assumes nothing.

@@ -39,7 +39,7 @@ fn tp_byte(m: u16) -> u8
 fn aui_bit(m: u16) -> u8
     ensures { λ r. ⌜ r ≡ auiBit m ⌝ }
 {
-    bit_7(ports::contains(m, 8))
+    bit_7(ports::contains(m, Wire::AUI))
 }
 
 // The bits that events set, register by register.

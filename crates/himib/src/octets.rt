@@ -1,6 +1,7 @@
 // Two readings of a counter, and the octet check.
 ghost use mathlib.Core.Path.{_≡_};
 ghost use Rattle.himib.specs.Octets.{differenceOf, checkOf};
+use attributes::Attributes;
 
 pub enum Check {
     Yes,
@@ -27,8 +28,8 @@ pub fn octet_check(frames: u32, octets: u32) -> Check
     if Check::MOST_FRAMES < frames {
         return Check::TurnedAway(10);
     }
-    if 64 * frames <= octets {
-        if octets <= 1518 * frames {
+    if Attributes::SHORTEST * frames <= octets {
+        if octets <= Attributes::LONGEST * frames {
             return Check::Yes;
         }
         return Check::No;
