@@ -1,17 +1,19 @@
--- One name that opens every definition a record's step is made of: under `unfolding step-computes` a list of records computes from power-up. So do two lists here, with
--- their answers: document 01's sample run, and a counter read while a frame comes after its first byte. A model that refuses everything, one that answers all bursts
--- alike and one whose reads copy anew at each byte fail at them. Assumes nothing.
+-- One name that opens every definition a record's step is made of: under `unfolding step-computes` a list of records computes from power-up. So do three lists
+-- here, with their answers: document 01's sample run; a counter read while a frame comes after its first byte; and a change bit read after a read that was turned
+-- away. A model that refuses everything, one that answers all bursts alike, one whose reads copy anew at each byte and one whose refused reads drop change bits
+-- fail at them. Assumes nothing.
 --   answers p rs       == what the records rs are answered with, from the point p
 --   nineAt v, somebody == nine ports with every counter at v and address 0; another source address
 --   auiFrame           == a readable frame of somebody's at AUI
 --   selecting, reading == the C writes that select AUI's Readable Frames; the records after the first byte of it
+--   refusedFirst       == a partition, a read that is turned away, and the read of its change bit
 use Prim.Native.Nat.{ℕ}
 use mathlib.Core.Path.{_≡_, refl}
 use mathlib.Core.List.{List, [], _∷_, map}
 use lib.ListN.{replicate}
-use Rattle.repeater.specs.declared.burst.Word.the-variants.{Rep}
+use Rattle.repeater.specs.declared.burst.Word.the-variants.{Rep, Jam}
 use Rattle.answer.specs.declared.Answer.{Answer}
-use Rattle.answer.specs.declared.Answer.the-variants.{Done, Sent, Value}
+use Rattle.answer.specs.declared.Answer.the-variants.{Done, Sent, Value, Refused}
 use Rattle.attributes.specs.declared.Attributes.{Attributes}
 use Rattle.himib.specs.Sheet.{sample, sampleAnswers}
 use Rattle.himib.proofs.Computing.{computing}
@@ -50,3 +52,11 @@ four-bytes-and-a-frame : answers (run (start (nineAt 0x040302ff) 0 0) selecting)
     ≡ Value 0xff ∷ Sent Rep 0 ∷ Value 0x02 ∷ Done ∷ Value 0x03 ∷ Value 0 ∷ Value 0x04 ∷ []
 unfolding step-computes happening history run
 four-bytes-and-a-frame = refl
+
+-- a collision of AUI over 1,024 bit times; a read of P 1 R 5, which is turned away; and the read of P 1 R 1, put right: the bit is still there
+abbrev pub refusedFirst : List (List ℕ)
+refusedFirst = burstRecord 0 4 2000 0 0 0 1025 noAddress ∷ cWriteRecord 0x01 ∷ cWriteRecord 0xe5 ∷ dReadRecord ∷ cWriteRecord 0xe1 ∷ dReadRecord ∷ dReadRecord ∷ []
+
+refused-read-keeps-the-bit : answers up refusedFirst ≡ Sent Jam 0 ∷ Done ∷ Done ∷ Refused 5 ∷ Done ∷ Value 0x80 ∷ Value 0 ∷ []
+unfolding step-computes happening history
+refused-read-keeps-the-bit = refl
