@@ -1,4 +1,4 @@
--- The repeater moves each port's standing as the events of its history say: demand 3 for one port, proved in Past.antt, holds of the repeater's ports.
+-- The repeater moves each port's standing as the events of its history say: demand 3 for one port, proved in the crate history, holds of the repeater's ports.
 -- Every law is for every repeater, and all but followed-moves for every place. Assumes nothing.
 --   Fair, fair           == what a burst is to a port: it does not collide where it is clean, and reconnects only where it is clean; every burst is so
 --   tied                 == a fair burst moves a port of T as its event says
