@@ -143,61 +143,57 @@ def measure_time(contestants, folder, records, rounds):
 
 # ---- instructions
 
-def counted(valgrind, words, path, folder):
+def watched(tool, words, path):
+    """What valgrind says on standard error of a run under one of its tools."""
     with open(path, "rb") as trace:
         done = subprocess.run(
-            [valgrind, "--tool=callgrind", f"--callgrind-out-file={folder / 'callgrind'}", *words],
-            stdin=trace, stdout=subprocess.DEVNULL, stderr=subprocess.PIPE, text=True)
-    found = re.search(r"Collected : (\d+)", done.stderr)
-    if done.returncode != 0 or not found:
-        program.give_up(f"valgrind counted nothing: {done.stderr[-500:]}")
-    return int(found.group(1))
+            ["valgrind", *tool, *words], stdin=trace, stdout=subprocess.DEVNULL, stderr=subprocess.PIPE, text=True)
+    if done.returncode != 0:
+        program.give_up(f"valgrind ended with status {done.returncode}: {done.stderr[-500:]}")
+    return done.stderr
 
 
-def measure_instructions(contestants, folder):
-    valgrind = shutil.which("valgrind")
-    if valgrind is None:
-        print("\ninstructions a record: not counted, there is no valgrind on the path")
-        return
-    empty = folder / "empty"
-    empty.write_bytes(b"")
-    begun = {who: counted(valgrind, words, empty, folder) for who, words in contestants.items()}
+def counted(words, path, folder):
+    said = watched(["--tool=callgrind", f"--callgrind-out-file={folder / 'callgrind'}"], words, path)
+    return int(re.search(r"Collected : (\d+)", said).group(1))
+
+
+def measure_instructions(contestants, folder, empty):
+    begun = {who: counted(words, empty, folder) for who, words in contestants.items()}
     rows = []
     for name in TRACES:
         path = written(folder / "trace", name, COUNTED)
         ours, theirs = (
-            (counted(valgrind, contestants[who], path, folder) - begun[who]) / COUNTED for who in ("program", "model"))
+            (counted(contestants[who], path, folder) - begun[who]) / COUNTED for who in ("program", "model"))
         rows.append((name, ours, theirs))
     show(f"instructions a record (callgrind, {COUNTED:,} records, start-up taken off)", "  ", rows)
 
 
 # ---- stack
 
-def deepest(valgrind, words, path, folder):
-    """The most stack in bytes, as valgrind sees it."""
+def deepest(words, path, folder):
+    """The most stack in bytes."""
     snapshots = folder / "massif"
-    with open(path, "rb") as trace:
-        done = subprocess.run(
-            [valgrind, "--tool=massif", "--stacks=yes", "--heap=no", "--detailed-freq=1000", f"--massif-out-file={snapshots}", *words],
-            stdin=trace, stdout=subprocess.DEVNULL, stderr=subprocess.PIPE, text=True)
-    found = re.findall(r"mem_stacks_B=(\d+)", snapshots.read_text()) if done.returncode == 0 else []
-    if not found:
-        program.give_up(f"valgrind saw no stack: {done.stderr[-500:]}")
-    return max(map(int, found))
+    watched(["--tool=massif", "--stacks=yes", "--heap=no", "--detailed-freq=1000", f"--massif-out-file={snapshots}"], words, path)
+    return max(map(int, re.findall(r"mem_stacks_B=(\d+)", snapshots.read_text())))
 
 
-def measure_stack(contestants, folder):
-    valgrind = shutil.which("valgrind")
-    if valgrind is None:
-        print("\nstack: not measured, there is no valgrind on the path")
-        return
-    empty = folder / "empty"
-    empty.write_bytes(b"")
+def measure_stack(contestants, folder, empty):
     path = written(folder / "trace", "bursts", FEW)
     print("\nstack at its deepest: no input, and bursts")
     for who, words in contestants.items():
-        none, bursts = deepest(valgrind, words, empty, folder), deepest(valgrind, words, path, folder)
+        none, bursts = deepest(words, empty, folder), deepest(words, path, folder)
         print(f"{who:12}{none:>8,} B{bursts:>10,} B", flush=True)
+
+
+def measure_counts(contestants, folder):
+    if shutil.which("valgrind") is None:
+        print("\ninstructions a record, and stack: not counted, there is no valgrind on the path")
+        return
+    empty = folder / "empty"
+    empty.write_bytes(b"")
+    measure_instructions(contestants, folder, empty)
+    measure_stack(contestants, folder, empty)
 
 
 # ---- memory
@@ -259,8 +255,7 @@ def main():
             contestants["program"] = [str(native.copy(folder))]
         measure_time(contestants, folder, words.records, words.rounds)
         if not words.without_counts:
-            measure_instructions(contestants, folder)
-            measure_stack(contestants, folder)
+            measure_counts(contestants, folder)
         if not words.without_memory:
             measure_memory(contestants)
 

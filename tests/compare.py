@@ -29,29 +29,6 @@ JUDGED = 500  # traces, from which on everything must be reached
 # What only high counters reach, and so only traces with a start file.
 STARTED = ("wrap.", "read.bytes4.place2", "read.bytes4.place3")
 
-# Document 01's sample: its records and its ten lines.
-SAMPLE = b"".join([
-    *[rec.PULSES[3]] * 4,
-    rec.burst(1, 1000, 64),
-    rec.C_WRITES[0x10],
-    rec.C_WRITES[0xE0],
-    rec.D_READ_RECORD,
-    rec.burst(3, 600, c=100, x=300),
-    rec.LAYOUT.pack(rec.TICK, 0, 1, 0, 0, 0, 0, 0, 0, 0, rec.NOBODY, 0),
-])
-SAMPLE_LINES = b"""\
-1 ok
-2 ok
-3 ok
-4 ok
-5 rep 102
-6 ok
-7 ok
-8 val 01
-9 jam 103
-10 ref 8
-"""
-
 Outcome = collections.namedtuple("Outcome", "lines message status")
 
 
@@ -188,8 +165,8 @@ class Comparison:
 
     def sample(self):
         for name, words in (("program", self.program), ("model", self.model)):
-            got = run(words, pieces(SAMPLE, "sample"))
-            fault = None if got.lines == SAMPLE_LINES else self.difference(SAMPLE, got, SAMPLE_LINES)
+            got = run(words, pieces(rec.SAMPLE, "sample"))
+            fault = None if got.lines == rec.SAMPLE_LINES else self.difference(rec.SAMPLE, got, rec.SAMPLE_LINES)
             self.tell(f"document 01's sample, {name}", fault)
 
     def nothing(self):
@@ -238,7 +215,7 @@ class Comparison:
             (self.folder / f"{size}").write_bytes(bytes(size))
         for name in ("0", "1", "529", "531", "1060", "missing", "."):
             for who, words in (("program", self.program), ("model", self.model)):
-                got = run([*words, str(self.folder / name)], [SAMPLE])
+                got = run([*words, str(self.folder / name)], [rec.SAMPLE])
                 fault = None
                 if got.lines != b"":
                     fault = f"the records were run: {got.lines[:80]}"

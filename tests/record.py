@@ -71,3 +71,26 @@ def words(record):
     stray = [at for at in range(1, SIZE) if record[at] & must_be_zero(kind, at)]
     said += [f"byte {at} is {record[at]:02x}h" for at in stray]
     return ", ".join(said)
+
+# Document 01's sample: its records and its ten lines.
+SAMPLE = b"".join([
+    *[PULSES[3]] * 4,
+    burst(1, 1000, 64),
+    C_WRITES[0x10],
+    C_WRITES[0xE0],
+    D_READ_RECORD,
+    burst(3, 600, c=100, x=300),
+    LAYOUT.pack(TICK, 0, 1, 0, 0, 0, 0, 0, 0, 0, NOBODY, 0),
+])
+SAMPLE_LINES = b"""\
+1 ok
+2 ok
+3 ok
+4 ok
+5 rep 102
+6 ok
+7 ok
+8 val 01
+9 jam 103
+10 ref 8
+"""

@@ -8,20 +8,9 @@ import tempfile
 from pathlib import Path
 
 from checks import Checks, TOP, need_program, roverivet_command
+from record import SAMPLE_LINES
 
 VERBS = ('build', 'asm', 'dis', 'run', 'explain', 'talk', 'view')
-
-SAMPLE = b'''1 ok
-2 ok
-3 ok
-4 ok
-5 rep 102
-6 ok
-7 ok
-8 val 01
-9 jam 103
-10 ref 8
-'''
 
 EXPLAINED = '''1-3 pulse tp0+tp1: ok
 4 pulse tp0+tp1: ok; link passes: TP0 TP1
@@ -86,9 +75,9 @@ def runs(checks, folder):
             checks.check(result.returncode == 2 and result.stderr.startswith(b'roverivet: traces/sample.expected:3:1: expected burst'),
                          'run --text of what is no trace')
         else:
-            checks.equal((result.returncode, result.stdout, result.stderr), (0, SAMPLE, b''), f'run {" ".join(words)}')
+            checks.equal((result.returncode, result.stdout, result.stderr), (0, SAMPLE_LINES, b''), f'run {" ".join(words)}')
     elsewhere = roverivet_command('run', str(binary), cwd=folder)
-    checks.equal((elsewhere.returncode, elsewhere.stdout), (0, SAMPLE), 'run from another folder')
+    checks.equal((elsewhere.returncode, elsewhere.stdout), (0, SAMPLE_LINES), 'run from another folder')
     started = roverivet_command('run', '--start', 'traces/counter-wraps.start.txt', 'traces/counter-wraps.txt')
     checks.check(started.returncode == 0 and b'\n7 val ff\n' in started.stdout, 'run with a start file as text')
     start = folder / 'wraps.start'
