@@ -1,7 +1,7 @@
 -- A block is a run, turn by turn, and so is a list with the host's record lent. Assumes nothing.
 --   Went s w v j   == j turns over the input s lead from the work w to v
 --   block-is-a-run, lent-is-a-run == the two statements
-use Prim.Native.Nat.{ℕ, zero, suc, _+_, _*_, _-_, _/_, _%_, _^_, _≤_, _<_}
+use Prim.Native.Nat.{ℕ, zero, suc, _+_, _*_, _-_, _/_, _^_, _≤_, _<_}
 use mathlib.Core.Path.{_≡_, refl, sym, ap, _∙_}
 use mathlib.Core.Bool.{Bool, true, false}
 use mathlib.Core.List.{List, [], _∷_, _++_, append-assoc, append-nil}
@@ -10,16 +10,14 @@ use lib.ListN.{length, take, drop}
 use lib.Seq.{drop-drop}
 use Rattle.answer.specs.declared.Answer.{Answer}
 use Rattle.answer.specs.Line.{lineOf, linesOf}
-use Rattle.answer.specs.Put.{hasRoom, afterLine, withLine}
+use Rattle.answer.specs.Put.{hasRoom}
 use Rattle.answer.proofs.Lines.{next-place, front, rest}
-use Rattle.host.specs.declared.Host.{Host}
-use Rattle.himib.specs.declared.step.Chip.{Chip}
 use Rattle.himib.specs.Step.{stepOf}
-use Rattle.block.specs.Block.{Work, Answered, piece, afterRecord, worked, begun, blockOf}
+use Rattle.block.specs.Block.{Work, piece, afterRecord, worked, begun, blockOf}
 use Rattle.block.proofs.BlockLaws.{worked-full, worked-one}
 use Rattle.lent.specs.Lists.{cutOff, chipAfter, answersTo}
 use Rattle.pass.specs.Runs.{Point, happening, history, run}
-use Rattle.program.specs.Program.{answersIn, recordsIn, at, Ran, BlockIsARun, LentIsARun}
+use Rattle.program.specs.Program.{answersIn, recordsIn, at, BlockIsARun, LentIsARun}
 
 abbrev standing : Work → Point
 standing w = at (w .chip) (w .host)
@@ -53,9 +51,6 @@ module _ (s : List ℕ) (w : Work) where
       record { point = refl; number = omega arith; taken = omega arith; on = omega arith; lines = sym (append-nil (take (w .used) (w .out))); after = refl }
 
   module _ (e : hasRoom (w .out) (w .used) ≡ true) (low : w .number + 1 < 2 ^ 64) where
-    next : Work
-    next = afterRecord s w
-
     said : Answer
     said = stepOf (w .chip) (w .host) (piece s (w .at)) .answer
 
