@@ -9,8 +9,8 @@ use native.Mathlib.Omega.{arith}
 use borrow.Author.Tests.{ne-eqb, not-true}
 use lib.Dec.{eqb}
 use lib.ListN.{length, getD}
-use Rattle.repeater.specs.declared.burst.Word.{Word}
-use Rattle.repeater.specs.declared.burst.Word.the-variants.{Nil, Rep, Jam}
+use Rattle.burst.specs.declared.Word.{Word}
+use Rattle.burst.specs.declared.Word.the-variants.{Nil, Rep, Jam}
 use Rattle.answer.specs.declared.Answer.{Answer}
 use Rattle.answer.specs.declared.Answer.the-variants.{Done, Sent, Value, Refused}
 use Rattle.answer.specs.Numerals.{digit, decimal, glyphs, hex}

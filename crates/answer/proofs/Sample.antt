@@ -6,7 +6,7 @@ use mathlib.Core.Bool.{true}
 use mathlib.Core.List.{List, [], _∷_, _++_}
 use native.Mathlib.Omega.{arith}
 use lib.ListN.{length, getD, replicate, take}
-use Rattle.repeater.specs.declared.burst.Word.the-variants.{Nil, Rep, Jam}
+use Rattle.burst.specs.declared.Word.the-variants.{Nil, Rep, Jam}
 use Rattle.answer.specs.declared.Answer.{Answer}
 use Rattle.answer.specs.declared.Answer.the-variants.{Done, Sent, Value, Refused}
 use Rattle.answer.specs.Answer.{numberOf, outputsOf, byteOf}

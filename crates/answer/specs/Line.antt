@@ -13,8 +13,8 @@ use Prim.Native.Nat.{ℕ, _+_}
 use mathlib.Core.Bool.{cond}
 use mathlib.Core.List.{List, [], _∷_, _++_}
 use lib.Dec.{eqb}
-use Rattle.repeater.specs.declared.burst.Word.{Word}
-use Rattle.repeater.specs.declared.burst.Word.the-variants.{Nil, Rep, Jam}
+use Rattle.burst.specs.declared.Word.{Word}
+use Rattle.burst.specs.declared.Word.the-variants.{Nil, Rep, Jam}
 use Rattle.answer.specs.declared.Answer.{Answer}
 use Rattle.answer.specs.declared.Answer.the-variants.{Done, Sent, Value, Refused}
 use Rattle.answer.specs.Text.{ascii}

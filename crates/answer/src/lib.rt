@@ -6,7 +6,7 @@ ghost use lib.ListN.{length};
 ghost use Rattle.answer.specs.Numerals.{decimal, hex};
 ghost use Rattle.answer.specs.Line.{space, named, tailOf, lineOf};
 ghost use Rattle.answer.specs.Put.{Put, WrittenLine, padded, twoBytes, fourBytes};
-use repeater::burst::Word;
+use burst::Word;
 
 // What a record is answered with.
 pub enum Answer {

@@ -7,8 +7,8 @@ use lib.Bits.{bitOr}
 use Rattle.ports.specs.Sets.{has}
 use Rattle.ports.proofs.Sets.{has-or}
 use Rattle.record.specs.declared.Burst.{Burst}
-use Rattle.repeater.specs.declared.burst.Hearing.{Hearing}
-use Rattle.repeater.specs.declared.burst.Effect.{Effect}
+use Rattle.burst.specs.declared.Hearing.{Hearing}
+use Rattle.burst.specs.declared.Effect.{Effect}
 use Rattle.attributes.specs.declared.Attributes.{Attributes}
 use Rattle.attributes.specs.Credits.{creditedAt, creditedWith, shareOf}
 

@@ -12,11 +12,11 @@ use borrow.Author.Tests.{ltb-true, ltb-false, lt-ltb, le-ltb, eqb-true, eq-eqb, 
 use lib.Dec.{eqb, ltb}
 use lib.ListN.{getD}
 use Rattle.record.specs.declared.Burst.{Burst}
-use Rattle.repeater.specs.declared.burst.Heard.the-variants.{One}
-use Rattle.repeater.specs.declared.burst.Word.the-variants.{Rep, Jam}
-use Rattle.repeater.specs.declared.burst.Hearing.{Hearing}
-use Rattle.repeater.specs.declared.burst.Effect.{Effect}
-use Rattle.repeater.specs.Status
+use Rattle.burst.specs.declared.Heard.the-variants.{One}
+use Rattle.burst.specs.declared.Word.the-variants.{Rep, Jam}
+use Rattle.burst.specs.declared.Hearing.{Hearing}
+use Rattle.burst.specs.declared.Effect.{Effect}
+use Rattle.burst.specs.Marks
 use Rattle.attributes.specs.declared.Share.{Share}
 use Rattle.attributes.specs.Credits.{readable, fcsErrors, alignmentErrors, framesTooLong, shortEvents, runts, classOf, one, inClass, creditsOf, shareOf, isOne, octetsOf}
 
@@ -259,7 +259,7 @@ module _ (g : Hearing) (f : Effect) (b : Burst) (cut changed : ℕ) where
 
   pub colliding-port : (i r : ℕ) → f .collision ≡ true → Among r classes → creditIn (creditsOf (shareOf g f cut changed i) b) r ≡ 0
   unfolding shareOf
-  colliding-port i r c l = no-class (shareOf g f cut changed i) b r (rw c (and-false (Status.alone (g .heard) i))) l
+  colliding-port i r c l = no-class (shareOf g f cut changed i) b r (rw c (and-false (Marks.alone (g .heard) i))) l
 
   pub other-port : (p i r : ℕ) → g .heard ≡ One p → (i ≡ p → ⊥) → Among r classes → creditIn (creditsOf (shareOf g f cut changed i) b) r ≡ 0
   unfolding shareOf

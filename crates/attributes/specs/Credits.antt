@@ -16,11 +16,11 @@ use lib.ListN.{getD, replicate}
 use Rattle.ports.specs.Sets.{has, setOf}
 use Rattle.ports.specs.Each.{each}
 use Rattle.record.specs.declared.Burst.{Burst}
-use Rattle.repeater.specs.declared.burst.Heard.{Heard}
-use Rattle.repeater.specs.declared.burst.Heard.the-variants.{Nothing, One, More}
-use Rattle.repeater.specs.declared.burst.Hearing.{Hearing}
-use Rattle.repeater.specs.declared.burst.Effect.{Effect}
-use Rattle.repeater.specs.Status.{alone}
+use Rattle.burst.specs.declared.Heard.{Heard}
+use Rattle.burst.specs.declared.Heard.the-variants.{Nothing, One, More}
+use Rattle.burst.specs.declared.Hearing.{Hearing}
+use Rattle.burst.specs.declared.Effect.{Effect}
+use Rattle.burst.specs.Marks.{alone}
 use Rattle.attributes.specs.declared.Attributes.{Attributes}
 use Rattle.attributes.specs.declared.Share.{Share}
 

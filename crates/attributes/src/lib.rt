@@ -6,12 +6,12 @@ ghost use lib.Dec.{eqb};
 ghost use lib.ListN.{getD, set};
 ghost use Rattle.ports.specs.Each.{each};
 ghost use Rattle.ports.specs.Sets.{setOf};
-ghost use Rattle.repeater.specs.Status.{alone};
+ghost use Rattle.burst.specs.Marks.{alone};
 ghost use Rattle.attributes.specs.Credits.{classOf, sameAddress, noAttributes, single, newcomer, changedOf, shareOf, one, inClass, creditsOf, counted, creditedWith, creditedAt, isOne, isMore, octetsOf, transmitCollisionsOf};
+use burst::Effect;
+use burst::Heard;
+use burst::Hearing;
 use record::Burst;
-use repeater::burst::Effect;
-use repeater::burst::Heard;
-use repeater::burst::Hearing;
 
 // The thirteen counters of a port, in the order of their registers, and its last source address.
 pub struct Attributes {

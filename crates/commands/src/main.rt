@@ -6,12 +6,12 @@
 //
 // The masks are in hexadecimal. SILENT is the links after 100 ticks more, ALTERNATE a digit for AUI and one for TP. AUI, RATES and MJLP are the status as three Gets
 // would report it afterwards.
+use burst::Burst;
 use libc::STDOUT_FILENO;
-use repeater::burst::Burst;
-use repeater::commands::Command;
-use repeater::commands::Query;
-use repeater::commands::Setting;
-use repeater::repeater::Repeater;
+use management::Command;
+use management::Query;
+use management::Setting;
+use repeater::Repeater;
 
 fn say(text: &[u8]) {
     io::write_all(STDOUT_FILENO, text);
@@ -178,7 +178,7 @@ fn get_line(q: Query, one: Repeater, two: Repeater) {
 
 fn line(b: u8, one: Repeater, two: Repeater) {
     say_byte(b);
-    let command = repeater::commands::decode(b);
+    let command = management::decode(b);
     match command {
         Command::Set(s) => set_line(s, one, two),
         Command::Get(q) => get_line(q, one, two),

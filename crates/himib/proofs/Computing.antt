@@ -6,11 +6,18 @@ use Rattle.ports.specs.Sets.{has, gather}
 use Rattle.ports.specs.Each.{each}
 use Rattle.record.specs.Record.{bytesFrom, littleEndian, find, used, unused, allZero, stray}
 use Rattle.record.specs.Refusals.{badNumbers, nothingActive, selectsNeither, refusals, firstOf, answer, recordOf}
-use Rattle.repeater.specs.Burst.{transmits, listens, heardOf, hearingOf, collisionHeard, wordOf, sentTo, collidedAt, effectOf}
-use Rattle.repeater.specs.Partition.{dataTo, cleanAt, reconnectingAt, meetingOf, partitioning, afterMeeting}
-use Rattle.repeater.specs.Link.{ticked, pulsed, revived, tickedAt, pulsedAt, revivedAt}
-use Rattle.repeater.specs.Status.{marksOf, marked}
-use Rattle.repeater.specs.Commands.{rowOf, commandOf, changed, answerOf, clearedBy}
+use Rattle.repeater.specs.Hearing.{transmits, listens, hearingOf}
+use Rattle.burst.specs.Burst.{heardOf, collisionHeard, wordOf, sentTo, collidedAt, effectOf}
+use Rattle.burst.specs.Clean.{dataTo, cleanAt, reconnectingAt}
+use Rattle.repeater.specs.Hearing.{meetingOf}
+use Rattle.port.specs.Partition.{partitioning, afterMeeting}
+use Rattle.port.specs.Link.{ticked, pulsed, revived, tickedAt, pulsedAt, revivedAt}
+use Rattle.burst.specs.Marks.{marksOf}
+use Rattle.management.specs.Status.{marked}
+use Rattle.management.specs.Commands.{rowOf, commandOf}
+use Rattle.port.specs.Settings.{changed}
+use Rattle.repeater.specs.Answers.{answerOf}
+use Rattle.management.specs.Status.{clearedBy}
 use Rattle.repeater.specs.Repeater.{tickedAll, pulsedAll, alternateFor, partitionedAt, portAfter, followed, burstOf, changedAt, changedTp, setTo, gotOf, among, thoseOf}
 use Rattle.host.specs.Map as Map
 use Rattle.host.specs.Sequence.{selected, placeFor, isLast, nextPlace, copied, readByte, wroteByte}

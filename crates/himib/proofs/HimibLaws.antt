@@ -7,12 +7,12 @@ use native.Mathlib.Omega.{arith}
 use borrow.Author.Tests.{eq-eqb, ne-eqb}
 use lib.Dec.{eqb}
 use lib.Bits.{xor-self}
-use Rattle.repeater.specs.declared.repeater.Repeater.{Repeater}
+use Rattle.repeater.specs.declared.Repeater.{Repeater}
 use Rattle.repeater.specs.Repeater.{partitionedOf}
 use Rattle.host.specs.declared.Host.{Host}
 use Rattle.host.specs.declared.Register.{Register}
 use Rattle.host.specs.Map.{registerAt, sizeOf, readableReg, writableReg}
-use Rattle.repeater.specs.Commands.{commandOf}
+use Rattle.management.specs.Commands.{commandOf}
 use Rattle.attributes.specs.declared.Attributes.{Attributes}
 use Rattle.himib.specs.declared.core.Core.{Core}
 use Rattle.record.specs.declared.Asked.{Asked}

@@ -12,8 +12,8 @@ use lib.ListN.{length, set}
 use Rattle.record.specs.declared.Asked.the-variants as ask
 use Rattle.record.specs.Record.{kind, written, byteIn, kinds, find, stray}
 use Rattle.record.specs.Refusals.{Row, refusals, firstOf, answer, askedBy, recordOf}
-use Rattle.repeater.specs.declared.commands.Command.{Command}
-use Rattle.repeater.specs.Commands.{commandOf}
+use Rattle.management.specs.declared.Command.{Command}
+use Rattle.management.specs.Commands.{commandOf}
 use Rattle.host.specs.declared.Host.{Host}
 use Rattle.host.specs.declared.Register as Reg
 use Rattle.host.specs.declared.Register.the-variants as reg

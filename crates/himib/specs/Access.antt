@@ -10,10 +10,10 @@ use mathlib.Core.Bool.{Bool, true, false, cond, not, _&&_, _||_}
 use mathlib.Core.List.{List}
 use lib.Dec.{eqb, ltb}
 use lib.ListN.{getD, set}
-use Rattle.repeater.specs.declared.commands.Command.{Command}
-use Rattle.repeater.specs.declared.commands.Command.the-variants.{Set, Get, Unlisted}
-use Rattle.repeater.specs.declared.repeater.Got.{Got}
-use Rattle.repeater.specs.Commands.{commandOf}
+use Rattle.management.specs.declared.Command.{Command}
+use Rattle.management.specs.declared.Command.the-variants.{Set, Get, Unlisted}
+use Rattle.repeater.specs.declared.Got.{Got}
+use Rattle.management.specs.Commands.{commandOf}
 use Rattle.repeater.specs.Repeater.{setTo, gotOf}
 use Rattle.host.specs.declared.Host.{Host}
 use Rattle.host.specs.declared.Reading.{Reading}

@@ -7,10 +7,10 @@ use mathlib.Core.List.{List}
 use Rattle.ports.specs.Sets.{without}
 use Rattle.ports.specs.Each.{each}
 use Rattle.record.specs.declared.Burst.{Burst}
-use Rattle.repeater.specs.declared.burst.Burst as Wire
-use Rattle.repeater.specs.declared.burst.Hearing.{Hearing}
-use Rattle.repeater.specs.declared.burst.Effect.{Effect}
-use Rattle.repeater.specs.declared.repeater.Bursted.{Bursted}
+use Rattle.burst.specs.declared.Burst as Wire
+use Rattle.burst.specs.declared.Hearing.{Hearing}
+use Rattle.burst.specs.declared.Effect.{Effect}
+use Rattle.repeater.specs.declared.Bursted.{Bursted}
 use Rattle.repeater.specs.Repeater.{burstOf, partitionedOf}
 use Rattle.attributes.specs.declared.Attributes.{Attributes}
 use Rattle.attributes.specs.Credits.{changedOf, creditedAt, octetsOf, transmitCollisionsOf}

@@ -9,7 +9,7 @@ use mathlib.Core.Bool.{Bool, true, false}
 use mathlib.Core.List.{List}
 use lib.ListN.{replicate}
 use lib.Bits.{bitXor}
-use Rattle.repeater.specs.declared.repeater.Repeater.{Repeater}
+use Rattle.repeater.specs.declared.Repeater.{Repeater}
 use Rattle.repeater.specs.Reset.{powerUp}
 use Rattle.repeater.specs.Repeater.{partitionedOf, linkedOf}
 use Rattle.attributes.specs.declared.Attributes.{Attributes}

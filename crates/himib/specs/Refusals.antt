@@ -14,7 +14,7 @@ use mathlib.Core.List.{List, [], _∷_, _++_}
 use mathlib.Core.Option.{Option, none, some}
 use Rattle.record.specs.Record.{kind, written, byteIn}
 use Rattle.record.specs.Refusals.{Row, refusals}
-use Rattle.repeater.specs.Commands.{commandOf}
+use Rattle.management.specs.Commands.{commandOf}
 use Rattle.host.specs.declared.Host.{Host}
 use Rattle.host.specs.declared.Register.{Register}
 use Rattle.host.specs.Map.{readableReg, writableReg}

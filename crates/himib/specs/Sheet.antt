@@ -13,8 +13,8 @@ use mathlib.Core.Bool.{Bool, true, false, _&&_, Bool·beq}
 use mathlib.Core.List.{List, [], _∷_, _++_}
 use lib.Dec.{eqb}
 use lib.ListN.{getD, set, replicate}
-use Rattle.repeater.specs.declared.burst.Word.the-variants.{Rep, Jam}
-use Rattle.repeater.specs.Port.{noPort}
+use Rattle.burst.specs.declared.Word.the-variants.{Rep, Jam}
+use Rattle.port.specs.Port.{noPort}
 use Rattle.host.specs.declared.Host.{Host}
 use Rattle.host.specs.Sequence.{powerUp}
 use Rattle.answer.specs.declared.Answer.{Answer}

@@ -11,9 +11,9 @@ use answer::Answer;
 use attributes::Attributes;
 use host::Host;
 use host::Register;
-use repeater::commands::Command;
-use repeater::commands::Query;
-use repeater::commands::Setting;
+use management::Command;
+use management::Query;
+use management::Setting;
 
 impl Acted {
     // Stands for no port: an access that completes no address write.
@@ -190,8 +190,8 @@ impl Core {
             Register::TransmitCollisions => self,
             Register::TotalOctets => self,
             Register::Version => self,
-            Register::SetPort => self.obey(false, repeater::commands::decode(b)),
-            Register::GetPort => self.obey(true, repeater::commands::decode(b)),
+            Register::SetPort => self.obey(false, management::decode(b)),
+            Register::GetPort => self.obey(true, management::decode(b)),
             Register::Change(_) => self,
             Register::Enable(r) => self.enable(r, b),
             Register::Counter(_, _) => self,
@@ -272,7 +272,7 @@ impl Core {
         }
         if host::writable(x) {
             if is_command(x) {
-                if listed(repeater::commands::decode(b)) {
+                if listed(management::decode(b)) {
                     return self.accept(x, h, b);
                 }
                 return Acted::turn_away(self, h, 4);

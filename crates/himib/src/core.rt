@@ -5,11 +5,11 @@ ghost use mathlib.Core.Bool.{false};
 ghost use Rattle.himib.specs.Changes.{bit7, tpByte, auiBit, eventsOf, noted, keptBits, pending};
 ghost use Rattle.himib.specs.Chip.{coreUp, coreReset, movedBy, moved};
 ghost use Rattle.himib.specs.Bursts.{wired, totalled};
+use burst::Burst as Wire;
+use burst::Effect;
+use burst::Hearing;
 use record::Burst;
-use repeater::burst::Burst as Wire;
-use repeater::burst::Effect;
-use repeater::burst::Hearing;
-use repeater::repeater::Repeater;
+use repeater::Repeater;
 
 pub struct Core {
     pub repeater: Repeater,

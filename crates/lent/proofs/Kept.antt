@@ -7,8 +7,8 @@ use mathlib.Core.List.{List, [], _∷_}
 use native.Mathlib.Omega.{arith}
 use lib.Dec.{eqb}
 use lib.ListN.{replicate}
-use Rattle.repeater.specs.declared.burst.Word.{Word}
-use Rattle.repeater.specs.Commands.{commandOf}
+use Rattle.burst.specs.declared.Word.{Word}
+use Rattle.management.specs.Commands.{commandOf}
 use Rattle.record.specs.declared.Asked as Ask
 use Rattle.record.specs.declared.Asked.the-variants as ask
 use Rattle.record.specs.declared.Record.{Record}

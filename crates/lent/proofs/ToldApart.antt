@@ -5,7 +5,7 @@ use mathlib.Core.Path.{_≡_, refl, sym, _∙_, ap}
 use mathlib.Core.Bool.{cond}
 use native.Mathlib.Omega.{arith}
 use lib.Dec.{eqb}
-use Rattle.repeater.specs.declared.burst.Word.the-variants.{Nil, Rep, Jam}
+use Rattle.burst.specs.declared.Word.the-variants.{Nil, Rep, Jam}
 use Rattle.answer.specs.declared.Answer.{Answer}
 use Rattle.answer.specs.declared.Answer.the-variants.{Done, Sent, Value, Refused}
 use Rattle.lent.specs.declared.lists.Told.{Told}

@@ -5,10 +5,10 @@ ghost use lib.ListN.{length};
 ghost use Rattle.record.specs.Refusals.{recordOf};
 ghost use Rattle.lent.specs.Lists.{pieces, piece, wordNumber, told, toldOf, laid, chipAfterAll, answersLaid};
 use answer::Answer;
+use burst::Word;
 use himib::step::Chip;
 use host::Host;
 use record::Record;
-use repeater::burst::Word;
 
 // What is told of an answer: the number of its word, and the mask, byte or number beside it.
 pub struct Told {

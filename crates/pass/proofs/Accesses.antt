@@ -6,11 +6,11 @@ use mathlib.Core.Bool.{Bool, true, false, cond, not, _&&_}
 use mathlib.Core.List.{List}
 use lib.Dec.{eqb}
 use lib.ListN.{set}
-use Rattle.repeater.specs.declared.commands.Command.{Command}
-use Rattle.repeater.specs.declared.commands.Command.the-variants.{Set, Get, Unlisted}
-use Rattle.repeater.specs.declared.commands.Setting.{Setting}
-use Rattle.repeater.specs.declared.commands.Query.{Query}
-use Rattle.repeater.specs.Commands.{commandOf}
+use Rattle.management.specs.declared.Command.{Command}
+use Rattle.management.specs.declared.Command.the-variants.{Set, Get, Unlisted}
+use Rattle.management.specs.declared.Setting.{Setting}
+use Rattle.management.specs.declared.Query.{Query}
+use Rattle.management.specs.Commands.{commandOf}
 use Rattle.host.specs.declared.Host.{Host}
 use Rattle.host.specs.declared.Register.{Register}
 use Rattle.host.specs.declared.Register.the-variants as reg

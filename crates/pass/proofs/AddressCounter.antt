@@ -19,14 +19,14 @@ use Rattle.ports.specs.Each.{each}
 use Rattle.ports.proofs.Sets.{has-none, set-true}
 use Rattle.ports.proofs.Each.{each-length, each-at, set-keeps}
 use Rattle.record.specs.declared.Burst.{Burst}
-use Rattle.repeater.specs.declared.port.Port.{Port}
-use Rattle.repeater.specs.declared.burst.Burst as Wire
-use Rattle.repeater.specs.declared.burst.Heard.{Heard}
-use Rattle.repeater.specs.declared.burst.Heard.the-variants.{Nothing, One, More}
-use Rattle.repeater.specs.declared.burst.Hearing.{Hearing}
-use Rattle.repeater.specs.declared.burst.Effect.{Effect}
-use Rattle.repeater.specs.Burst.{hearingOf}
-use Rattle.repeater.proofs.Heard.{one-heard}
+use Rattle.port.specs.declared.Port.{Port}
+use Rattle.burst.specs.declared.Burst as Wire
+use Rattle.burst.specs.declared.Heard.{Heard}
+use Rattle.burst.specs.declared.Heard.the-variants.{Nothing, One, More}
+use Rattle.burst.specs.declared.Hearing.{Hearing}
+use Rattle.burst.specs.declared.Effect.{Effect}
+use Rattle.repeater.specs.Hearing.{hearingOf}
+use Rattle.repeater.proofs.Hearing.{one-heard}
 use Rattle.attributes.specs.declared.Attributes.{Attributes}
 use Rattle.attributes.specs.Credits.{noAttributes, newcomer, changedOf, one, shareOf, creditsOf, counted, creditedWith, creditedAt}
 use Rattle.himib.specs.Step.{withAddress, readdressed}

@@ -14,7 +14,7 @@ use Rattle.record.specs.declared.Burst.{Burst}
 use Rattle.record.specs.declared.Asked.{Asked}
 use Rattle.record.specs.declared.Asked.the-variants as ask
 use Rattle.record.specs.Refusals.{recordOf}
-use Rattle.repeater.specs.Commands.{commandOf}
+use Rattle.management.specs.Commands.{commandOf}
 use Rattle.host.specs.declared.Host.{Host}
 use Rattle.host.specs.declared.Register.{Register}
 use Rattle.host.specs.Map.{sizeOf, readableReg, writableReg}

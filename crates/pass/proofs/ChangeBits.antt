@@ -22,11 +22,11 @@ use Rattle.record.specs.declared.Asked.{Asked}
 use Rattle.record.specs.declared.Asked.the-variants as ask
 use Rattle.record.specs.declared.Burst.{Burst}
 use Rattle.record.specs.Refusals.{recordOf}
-use Rattle.repeater.specs.declared.burst.Hearing.{Hearing}
-use Rattle.repeater.specs.declared.repeater.Repeater.{Repeater}
-use Rattle.repeater.specs.declared.repeater.Bursted.{Bursted}
-use Rattle.repeater.specs.Burst.{hearingOf}
-use Rattle.repeater.specs.Status.{marksOf}
+use Rattle.burst.specs.declared.Hearing.{Hearing}
+use Rattle.repeater.specs.declared.Repeater.{Repeater}
+use Rattle.repeater.specs.declared.Bursted.{Bursted}
+use Rattle.repeater.specs.Hearing.{hearingOf}
+use Rattle.burst.specs.Marks.{marksOf}
 use Rattle.repeater.specs.Repeater.{setTo, gotOf, tickedAll, pulsedAll, followed, burstOf, partitionedOf, linkedOf}
 use Rattle.host.specs.declared.Host.{Host}
 use Rattle.answer.specs.declared.Answer.{Answer}

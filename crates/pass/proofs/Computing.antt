@@ -11,7 +11,7 @@ use Prim.Native.Nat.{ℕ}
 use mathlib.Core.Path.{_≡_, refl}
 use mathlib.Core.List.{List, [], _∷_, map}
 use lib.ListN.{replicate}
-use Rattle.repeater.specs.declared.burst.Word.the-variants.{Rep, Jam}
+use Rattle.burst.specs.declared.Word.the-variants.{Rep, Jam}
 use Rattle.answer.specs.declared.Answer.{Answer}
 use Rattle.answer.specs.declared.Answer.the-variants.{Done, Sent, Value, Refused}
 use Rattle.attributes.specs.declared.Attributes.{Attributes}

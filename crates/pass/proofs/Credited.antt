@@ -20,20 +20,20 @@ use Rattle.record.specs.declared.Burst.{Burst}
 use Rattle.record.specs.declared.Asked.{Asked}
 use Rattle.record.specs.declared.Asked.the-variants as ask
 use Rattle.record.specs.Refusals.{recordOf}
-use Rattle.repeater.specs.declared.port.Port.{Port}
-use Rattle.repeater.specs.declared.burst.Burst as Wire
-use Rattle.repeater.specs.declared.burst.Heard.{Heard}
-use Rattle.repeater.specs.declared.burst.Heard.the-variants.{Nothing, One, More}
-use Rattle.repeater.specs.declared.burst.Effect.{Effect}
-use Rattle.repeater.specs.declared.commands.Command.{Command}
-use Rattle.repeater.specs.declared.commands.Command.the-variants.{Set, Get, Unlisted}
-use Rattle.repeater.specs.declared.repeater.Repeater.{Repeater}
-use Rattle.repeater.specs.declared.repeater.Bursted.{Bursted}
-use Rattle.repeater.specs.Status.{alone}
-use Rattle.repeater.specs.Burst.{hearingOf}
+use Rattle.port.specs.declared.Port.{Port}
+use Rattle.burst.specs.declared.Burst as Wire
+use Rattle.burst.specs.declared.Heard.{Heard}
+use Rattle.burst.specs.declared.Heard.the-variants.{Nothing, One, More}
+use Rattle.burst.specs.declared.Effect.{Effect}
+use Rattle.management.specs.declared.Command.{Command}
+use Rattle.management.specs.declared.Command.the-variants.{Set, Get, Unlisted}
+use Rattle.repeater.specs.declared.Repeater.{Repeater}
+use Rattle.repeater.specs.declared.Bursted.{Bursted}
+use Rattle.burst.specs.Marks.{alone}
+use Rattle.repeater.specs.Hearing.{hearingOf}
 use Rattle.repeater.specs.Repeater.{burstOf, followed}
-use Rattle.repeater.specs.Commands.{commandOf}
-use Rattle.repeater.proofs.Heard.{one-heard}
+use Rattle.management.specs.Commands.{commandOf}
+use Rattle.repeater.proofs.Hearing.{one-heard}
 use Rattle.host.specs.declared.Host.{Host}
 use Rattle.host.specs.declared.Register.{Register}
 use Rattle.host.specs.declared.Register.the-variants as reg

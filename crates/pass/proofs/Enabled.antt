@@ -14,26 +14,29 @@ use lib.Dec.{eqb, ltb, eqb·suc-suc}
 use lib.ListN.{getD, set}
 use Rattle.ports.specs.Sets.{aui, has}
 use Rattle.ports.proofs.Each.{each-keeps}
-use Rattle.repeater.specs.declared.port.Port.{Port}
-use Rattle.repeater.specs.declared.port.Meeting.{Meeting}
-use Rattle.repeater.specs.declared.port.Change.{Change}
-use Rattle.repeater.specs.declared.port.Change.the-variants.{Disabling, EnablingTp, EnablingAui, StoppingTest, StartingTest}
-use Rattle.repeater.specs.declared.burst.Burst.{Burst}
-use Rattle.repeater.specs.declared.burst.Hearing.{Hearing}
-use Rattle.repeater.specs.declared.burst.Effect.{Effect}
-use Rattle.repeater.specs.declared.commands.Setting.{Setting}
-use Rattle.repeater.specs.declared.commands.Setting.the-variants.{AlternateAui, AlternateTp, DisableAui, EnableAui, DisableTp, EnableTp, LinkTestOff, LinkTestOn}
-use Rattle.repeater.specs.declared.commands.Query.{Query}
-use Rattle.repeater.specs.declared.repeater.Repeater.{Repeater}
-use Rattle.repeater.specs.declared.repeater.Those.the-variants.{Enabled}
-use Rattle.repeater.specs.Port.{noPort}
-use Rattle.repeater.specs.Burst.{hearingOf, effectOf}
-use Rattle.repeater.specs.Partition.{meetingOf, partitioning, afterMeeting}
-use Rattle.repeater.specs.Commands.{changed}
+use Rattle.port.specs.declared.Port.{Port}
+use Rattle.port.specs.declared.Meeting.{Meeting}
+use Rattle.port.specs.declared.Change.{Change}
+use Rattle.port.specs.declared.Change.the-variants.{Disabling, EnablingTp, EnablingAui, StoppingTest, StartingTest}
+use Rattle.burst.specs.declared.Burst.{Burst}
+use Rattle.burst.specs.declared.Hearing.{Hearing}
+use Rattle.burst.specs.declared.Effect.{Effect}
+use Rattle.management.specs.declared.Setting.{Setting}
+use Rattle.management.specs.declared.Setting.the-variants.{AlternateAui, AlternateTp, DisableAui, EnableAui, DisableTp, EnableTp, LinkTestOff, LinkTestOn}
+use Rattle.management.specs.declared.Query.{Query}
+use Rattle.repeater.specs.declared.Repeater.{Repeater}
+use Rattle.repeater.specs.declared.Those.the-variants.{Enabled}
+use Rattle.port.specs.Port.{noPort}
+use Rattle.repeater.specs.Hearing.{hearingOf}
+use Rattle.burst.specs.Burst.{effectOf}
+use Rattle.repeater.specs.Hearing.{meetingOf}
+use Rattle.port.specs.Partition.{partitioning, afterMeeting}
+use Rattle.port.specs.Settings.{changed}
 use Rattle.repeater.specs.Repeater.{tickedAll, pulsedAll, alternateFor, partitionedAt, portAfter, followed, burstOf, changedAt, changedTp, setTo, gotOf, among, enabledOf}
 use Rattle.repeater.specs.Events.{disables}
 use Rattle.repeater.proofs.RepeaterLaws.{those-has}
-use Rattle.repeater.proofs.Kept.{revived-at-keeps, ticks-keep, pulses-keep}
+use Rattle.port.proofs.Kept.{revived-at-keeps}
+use Rattle.repeater.proofs.Kept.{ticks-keep, pulses-keep}
 
 abbrev pub enabledIn : Repeater → ℕ → Bool
 enabledIn r i = getD (r .ports) i noPort .enabled

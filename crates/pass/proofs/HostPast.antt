@@ -17,7 +17,7 @@ use Rattle.record.specs.declared.Asked.the-variants as ask
 use Rattle.record.specs.Record.{bytesFrom}
 use Rattle.record.specs.Refusals.{recordOf, answer, firstOf, refusals}
 use Rattle.record.proofs.Accepted.{bounded-as}
-use Rattle.repeater.specs.Commands.{commandOf}
+use Rattle.management.specs.Commands.{commandOf}
 use Rattle.host.specs.declared.Host.{Host}
 use Rattle.host.specs.declared.Register.{Register}
 use Rattle.host.specs.declared.Register.the-variants as reg

@@ -14,14 +14,15 @@ use Rattle.ports.specs.Sets.{has}
 use Rattle.record.specs.declared.Asked.{Asked}
 use Rattle.record.specs.declared.Asked.the-variants as ask
 use Rattle.record.specs.Refusals.{recordOf}
-use Rattle.repeater.specs.declared.port.Port.{Port}
-use Rattle.repeater.specs.declared.commands.Setting.{Setting}
-use Rattle.repeater.specs.declared.repeater.Repeater.{Repeater}
-use Rattle.repeater.specs.declared.repeater.Those.the-variants.{Partitioned}
+use Rattle.port.specs.declared.Port.{Port}
+use Rattle.management.specs.declared.Setting.{Setting}
+use Rattle.repeater.specs.declared.Repeater.{Repeater}
+use Rattle.repeater.specs.declared.Those.the-variants.{Partitioned}
 use Rattle.repeater.specs.Repeater.{setTo, gotOf, tickedAll, pulsedAll, burstOf, among, enabledOf, partitionedOf}
-use Rattle.repeater.specs.Port.{noPort}
+use Rattle.port.specs.Port.{noPort}
 use Rattle.history.specs.History.{Event, collided, neither, cleared, Standing, connected, partitioned, afterEvent, since, Struck, long, many, isPartitioned, struck}
-use Rattle.repeater.specs.Events.{standingOf, standingAt, eventOf, followedEvent, burstEvent, setEvent}
+use Rattle.port.specs.Standing.{standingOf, eventOf}
+use Rattle.repeater.specs.Events.{standingAt, followedEvent, burstEvent, setEvent}
 use Rattle.repeater.proofs.RepeaterLaws.{those-has}
 use Rattle.history.proofs.Past.{Keeps, told-exactly}
 use Rattle.repeater.proofs.Events.{burst-moves, tick-moves, pulse-moves, get-moves, set-moves, reset-moves, up-connected}

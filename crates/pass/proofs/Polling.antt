@@ -11,8 +11,8 @@ use Rattle.ports.proofs.Sets.{and-first, and-second}
 use Rattle.record.specs.declared.Asked.{Asked}
 use Rattle.record.specs.declared.Asked.the-variants as ask
 use Rattle.record.specs.Refusals.{recordOf}
-use Rattle.repeater.specs.declared.repeater.Repeater.{Repeater}
-use Rattle.repeater.specs.declared.burst.Word.the-variants.{Rep, Jam}
+use Rattle.repeater.specs.declared.Repeater.{Repeater}
+use Rattle.burst.specs.declared.Word.the-variants.{Rep, Jam}
 use Rattle.host.specs.declared.Host.{Host}
 use Rattle.host.specs.declared.Register.{Register}
 use Rattle.host.specs.declared.Register.the-variants as reg

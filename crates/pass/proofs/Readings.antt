@@ -15,14 +15,15 @@ use Rattle.record.specs.declared.Asked.the-variants as ask
 use Rattle.record.specs.Refusals.{recordOf}
 use Rattle.record.specs.Accepted.{BurstBounds}
 use Rattle.record.proofs.Accepted.{bounded-as}
-use Rattle.repeater.specs.declared.port.Port.{Port}
-use Rattle.repeater.specs.declared.burst.Burst as Wire
-use Rattle.repeater.specs.declared.burst.Heard.{Heard}
-use Rattle.repeater.specs.declared.burst.Heard.the-variants.{Nothing, One, More}
-use Rattle.repeater.specs.Status.{alone}
-use Rattle.repeater.specs.Burst.{inE, inL, inH, hearingOf}
+use Rattle.port.specs.declared.Port.{Port}
+use Rattle.burst.specs.declared.Burst as Wire
+use Rattle.burst.specs.declared.Heard.{Heard}
+use Rattle.burst.specs.declared.Heard.the-variants.{Nothing, One, More}
+use Rattle.burst.specs.Marks.{alone}
+use Rattle.burst.specs.Burst.{inE}
+use Rattle.repeater.specs.Hearing.{inL, inH, hearingOf}
 use Rattle.repeater.specs.Repeater.{burstOf, followed}
-use Rattle.repeater.proofs.Heard.{one-heard}
+use Rattle.repeater.proofs.Hearing.{one-heard}
 use Rattle.attributes.specs.Credits.{readable, fcsErrors, alignmentErrors, framesTooLong, shortEvents, runts, classOf, one, isOne, shareOf, creditsOf, octetsOf}
 use Rattle.himib.specs.Bursts.{wired}
 use Rattle.himib.proofs.HimibLaws.{isBurst}

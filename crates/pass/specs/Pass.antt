@@ -14,7 +14,7 @@ use Rattle.record.specs.declared.Burst.{Burst}
 use Rattle.record.specs.declared.Asked.{Asked}
 use Rattle.record.specs.declared.Asked.the-variants as ask
 use Rattle.record.specs.Refusals.{recordOf}
-use Rattle.repeater.specs.declared.repeater.Bursted.{Bursted}
+use Rattle.repeater.specs.declared.Bursted.{Bursted}
 use Rattle.repeater.specs.Repeater.{burstOf, partitionedOf}
 use Rattle.repeater.specs.Events.{burstEvent}
 use Rattle.history.specs.Exactly.{Exactly}

@@ -17,7 +17,7 @@ use Rattle.record.specs.declared.Burst.{Burst}
 use Rattle.record.specs.declared.Asked.{Asked}
 use Rattle.record.specs.declared.Asked.the-variants as ask
 use Rattle.record.specs.Refusals.{recordOf}
-use Rattle.repeater.specs.declared.repeater.Repeater.{Repeater}
+use Rattle.repeater.specs.declared.Repeater.{Repeater}
 use Rattle.repeater.specs.Repeater.{partitionedOf, linkedOf, enabledOf}
 use Rattle.host.specs.declared.Host.{Host}
 use Rattle.host.specs.Sequence.{powerUp}

@@ -1,16 +1,15 @@
 -- The repeater moves each port's standing as the events of its history say: demand 3 for one port, proved in the crate history, holds of the repeater's ports.
 -- Every law is for every repeater, and all but followed-moves for every place. Assumes nothing.
---   Fair, fair           == what a burst is to a port: it does not collide where it is clean, and reconnects only where it is clean; every burst is so
---   tied                 == a fair burst moves a port of T as its event says
+--   fair                 == what a burst is to a port is fair: it does not collide where it is clean, and reconnects only where it is clean
 --   followed-moves, burst-moves == a burst moves the port at place i as its event there says
 --   set-moves            == so does a Set
 --   tick-moves, pulse-moves, get-moves == these leave the standing alone: to every port they are `neither`
 --   up-connected, reset-moves == at power-up, and after a reset, every port is connected with count 0: a reset is `cleared`
 --   input-moves          == one law for whatever happens to the repeater
 --   partitioned-by-past  == demand 3 for the repeater by itself: after any list of inputs from power-up, at every place
-use Prim.Native.Nat.{ℕ, zero, suc, _+_, _≤_, _<_}
-use mathlib.Core.Path.{_≡_, refl, sym, ap, _∙_}
-use mathlib.Core.Bool.{Bool, true, false, cond, _&&_, _||_, and-false, true≢false, false≢true}
+use Prim.Native.Nat.{ℕ, zero, suc, _≤_, _<_}
+use mathlib.Core.Path.{_≡_, refl, ap, _∙_}
+use mathlib.Core.Bool.{Bool, true, false, cond, _&&_, and-false}
 use mathlib.Core.List.{List, [], _∷_}
 use borrow.Author.Tests.{ne-eqb, leb-true, leb-false}
 use native.Mathlib.Omega.{arith}
@@ -20,36 +19,35 @@ use Rattle.ports.specs.Sets.{aui, has}
 use Rattle.history.specs.Exactly.{Exactly}
 use Rattle.ports.proofs.Sets.{set-false, and-first}
 use Rattle.ports.proofs.Each.{each-at, set-keeps}
-use Rattle.repeater.specs.declared.port.Port.{Port}
-use Rattle.repeater.specs.declared.port.Meeting.{Meeting}
-use Rattle.repeater.specs.declared.port.Change.{Change}
-use Rattle.repeater.specs.declared.port.Change.the-variants.{Disabling, EnablingTp, EnablingAui, StoppingTest, StartingTest}
-use Rattle.repeater.specs.declared.burst.Burst.{Burst}
-use Rattle.repeater.specs.declared.burst.Hearing.{Hearing}
-use Rattle.repeater.specs.declared.burst.Effect.{Effect}
-use Rattle.repeater.specs.declared.commands.Setting.{Setting}
-use Rattle.repeater.specs.declared.commands.Setting.the-variants.{AlternateAui, AlternateTp, DisableAui, EnableAui, DisableTp, EnableTp, LinkTestOff, LinkTestOn}
-use Rattle.repeater.specs.declared.commands.Query.{Query}
-use Rattle.repeater.specs.declared.repeater.Repeater.{Repeater}
-use Rattle.repeater.specs.declared.repeater.Those.the-variants.{Transmitting}
-use Rattle.repeater.specs.Port.{noPort}
-use Rattle.repeater.specs.Reset.{tpUp, auiUp, powerUp}
-use Rattle.repeater.specs.Burst.{inT, hearingOf, effectOf}
-use Rattle.repeater.specs.Partition.{cleanAt, reconnectingAt, meetingOf, partitioning, afterMeeting}
-use Rattle.repeater.specs.Commands.{changed}
+use Rattle.port.specs.declared.Port.{Port}
+use Rattle.port.specs.declared.Change.{Change}
+use Rattle.port.specs.declared.Change.the-variants.{Disabling, EnablingTp, EnablingAui, StoppingTest, StartingTest}
+use Rattle.burst.specs.declared.Burst.{Burst}
+use Rattle.burst.specs.declared.Hearing.{Hearing}
+use Rattle.burst.specs.declared.Effect.{Effect}
+use Rattle.management.specs.declared.Setting.{Setting}
+use Rattle.management.specs.declared.Setting.the-variants.{AlternateAui, AlternateTp, DisableAui, EnableAui, DisableTp, EnableTp, LinkTestOff, LinkTestOn}
+use Rattle.management.specs.declared.Query.{Query}
+use Rattle.repeater.specs.declared.Repeater.{Repeater}
+use Rattle.repeater.specs.declared.Those.the-variants.{Transmitting}
+use Rattle.port.specs.Port.{noPort}
+use Rattle.port.specs.Reset.{tpUp, auiUp}
+use Rattle.repeater.specs.Reset.{powerUp}
+use Rattle.repeater.specs.Hearing.{inT, hearingOf, meetingOf}
+use Rattle.burst.specs.Burst.{effectOf}
+use Rattle.burst.specs.Clean.{cleanAt, reconnectingAt}
+use Rattle.port.specs.Settings.{changed}
 use Rattle.repeater.specs.Repeater.{tickedAll, pulsedAll, alternateFor, partitionedAt, portAfter, followed, burstOf, changedAt, changedTp, setTo, gotOf, among}
-use Rattle.history.specs.History.{neither, cleared, Standing, connected, partitioned, afterEvent, since, Struck}
-use Rattle.repeater.specs.Events.{standingOf, standingAt, eventOf, followedEvent, burstEvent, disables, setEvent}
-use Rattle.repeater.specs.Events.{Input, burst, pulse, tick, setting, query, reset, afterInput, inputEvent, afterInputs, inputEvents}
+use Rattle.history.specs.History.{neither, cleared, connected, partitioned, afterEvent, since, Struck}
+use Rattle.port.specs.Standing.{standingOf, eventOf}
+use Rattle.repeater.specs.Events.{standingAt, followedEvent, burstEvent, disables, setEvent, Input, burst, pulse, tick, setting, query, reset, afterInput, inputEvent, afterInputs, inputEvents}
 use Rattle.repeater.proofs.RepeaterLaws.{past-among}
 use Rattle.history.proofs.Past.{Keeps, told-exactly}
-use Rattle.repeater.proofs.Kept.{Unlinked, revived-at-keeps, ticks-keep, pulses-keep, ports-bursted}
+use Rattle.port.proofs.Kept.{revived-at-keeps}
+use Rattle.repeater.proofs.Kept.{ticks-keep, pulses-keep, ports-bursted}
+use Rattle.port.proofs.Standing.{Fair, tied, stays, clears, linkless, disabling-moves, quiet, quiet-keeps}
 
 -- WHAT A BURST IS TO A PORT
-
-pub record Fair (m : Meeting) : Type 0 where
-  pub apart : m .collided ≡ true → m .clean ≡ false
-  pub long : m .reconnecting ≡ true → m .clean ≡ true
 
 collided-unclean : (g : Hearing) (f : Effect) (i : ℕ) → has (f .collided) i ≡ true → cleanAt g f i ≡ false
 unfolding cleanAt
@@ -63,46 +61,6 @@ module _ (g : Hearing) (f : Effect) (b : Burst) (alternate : Bool) (i : ℕ) whe
   pub fair : Fair (meetingOf g f b alternate i)
   unfolding meetingOf
   fair = record { apart = λ h. collided-unclean g f i h; long = λ h. reconnecting-clean h }
-
--- ONE PORT
-
-connected-tied : (m : Meeting) (p : Port) (a b c : Bool) → p .partitioned ≡ false → m .collided ≡ a → m .clean ≡ b → (leb 32 (p .count + 1) || ltb 1024 (m .x)) ≡ c
-    → standingOf (afterMeeting m p) ≡ afterEvent (standingOf p) (eventOf m)
-unfolding afterMeeting partitioning eventOf
-connected-tied m p true b true o h k l = simp (o, h, l)
-connected-tied m p true b false o h k l = simp (o, h, l)
-connected-tied m p false true c o h k l = simp (o, h, k)
-connected-tied m p false false c o h k l = simp (o, h, k)
-
-partitioned-tied : (m : Meeting) (p : Port) (a b c : Bool) → Fair m → p .partitioned ≡ true → m .collided ≡ a → m .clean ≡ b → m .reconnecting ≡ c
-    → standingOf (afterMeeting m p) ≡ afterEvent (standingOf p) (eventOf m)
-unfolding afterMeeting eventOf
-partitioned-tied m p true b true w o h k l = absurd (true≢false (sym (w .long l) ∙ w .apart h))
-partitioned-tied m p true b false w o h k l = simp (o, h, l)
-partitioned-tied m p false true true w o h k l = simp (o, h, k, l)
-partitioned-tied m p false true false w o h k l = simp (o, h, k, l)
-partitioned-tied m p false false true w o h k l = absurd (true≢false (sym (w .long l) ∙ k))
-partitioned-tied m p false false false w o h k l = simp (o, h, k, l)
-
-pub tied : (m : Meeting) (p : Port) → Fair m → standingOf (afterMeeting m p) ≡ afterEvent (standingOf p) (eventOf m)
-tied m p w = go (p .partitioned) refl
-  where
-    go : (a : Bool) → p .partitioned ≡ a → standingOf (afterMeeting m p) ≡ afterEvent (standingOf p) (eventOf m)
-    go true o = partitioned-tied m p (m .collided) (m .clean) (m .reconnecting) w o refl refl refl
-    go false o = connected-tied m p (m .collided) (m .clean) (leb 32 (p .count + 1) || ltb 1024 (m .x)) o refl refl refl
-
--- what is neither leaves the standing
-stays : (s : Standing) → s ≡ afterEvent s neither
-stays (connected n) = refl
-stays partitioned = refl
-
-clears : (s : Standing) → connected 0 ≡ afterEvent s cleared
-clears (connected n) = refl
-clears partitioned = refl
-
--- a port's links are no part of its standing
-linkless : Unlinked standingOf
-linkless p pass idle pulses = refl
 
 -- BURSTS
 
@@ -166,40 +124,6 @@ pub reset-moves : (r : Repeater) (i : ℕ) → standingAt powerUp i ≡ afterEve
 reset-moves r i = up-connected i ∙ clears (standingAt r i)
 
 -- SETS
-
-disabling-moves : (p : Port) (a : Bool) → p .enabled ≡ a → standingOf (changed Disabling p) ≡ afterEvent (standingOf p) (cond (p .enabled) cleared neither)
-unfolding changed
-disabling-moves p true h = rw h (clears (standingOf p))
-disabling-moves p false h = rw h (stays (standingOf p))
-
--- every other change is one of the link, or of whether the port is enabled
-abbrev quiet : Change → Bool
-quiet Disabling = false
-quiet EnablingTp = true
-quiet EnablingAui = true
-quiet StoppingTest = true
-quiet StartingTest = true
-
-quiet-keeps : (how : Change) (p : Port) → quiet how ≡ true → standingOf (changed how p) ≡ standingOf p
-unfolding changed
-quiet-keeps Disabling p h = absurd (false≢true h)
-quiet-keeps EnablingTp p h = go (p .enabled) (p .«link_test») refl refl
-  where
-    go : (a b : Bool) → p .enabled ≡ a → p .«link_test» ≡ b → standingOf (changed EnablingTp p) ≡ standingOf p
-    go true b k l = rw k
-    go false true k l = rw (k, l)
-    go false false k l = rw (k, l)
-quiet-keeps EnablingAui p h = refl
-quiet-keeps StoppingTest p h = go (p .«link_test») refl
-  where
-    go : (a : Bool) → p .«link_test» ≡ a → standingOf (changed StoppingTest p) ≡ standingOf p
-    go true k = rw k
-    go false k = rw k
-quiet-keeps StartingTest p h = go (p .«link_test») refl
-  where
-    go : (a : Bool) → p .«link_test» ≡ a → standingOf (changed StartingTest p) ≡ standingOf p
-    go true k = rw k
-    go false k = rw k
 
 set-disables : (ps : List Port) (k i : ℕ)
     → standingOf (getD (set ps k (changed Disabling (getD ps k noPort))) i noPort) ≡ afterEvent (standingOf (getD ps i noPort)) (cond (eqb i k && getD ps i noPort .enabled) cleared neither)

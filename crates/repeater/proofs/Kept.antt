@@ -5,79 +5,46 @@
 --   linked-got                           == so are the TP ports whose link passes
 --   partitioned-lt, linked-lt            == how large the two masks can be
 --   ports-ticked, -pulsed, -followed, -bursted, -set, -got, -up == how many ports there are
-use Prim.Native.Nat.{ℕ, _+_, _≤_, _<_}
+use Prim.Native.Nat.{ℕ, _≤_, _<_}
 use mathlib.Core.Path.{_≡_, refl}
 use mathlib.Core.Bool.{Bool, true, false, cond}
 use native.Mathlib.Omega.{arith}
 use borrow.Author.Tests.{le-ltb}
-use lib.Dec.{leb, ltb}
+use lib.Dec.{ltb}
 use lib.ListN.{length, length-set, getD}
-use Rattle.ports.specs.Sets.{aui, has}
+use Rattle.ports.specs.Sets.{aui}
 use Rattle.ports.proofs.Sets.{gather-lt, gather-same, gather-more}
 use Rattle.ports.proofs.Each.{each-length, each-keeps}
-use Rattle.repeater.specs.declared.port.Port.{Port}
-use Rattle.repeater.specs.declared.port.Change.{Change}
-use Rattle.repeater.specs.declared.port.Change.the-variants.{Disabling, EnablingTp, EnablingAui, StoppingTest, StartingTest}
-use Rattle.repeater.specs.declared.burst.Burst.{Burst}
-use Rattle.repeater.specs.declared.burst.Hearing.{Hearing}
-use Rattle.repeater.specs.declared.commands.Setting.{Setting}
-use Rattle.repeater.specs.declared.commands.Setting.the-variants.{AlternateAui, AlternateTp, DisableAui, EnableAui, DisableTp, EnableTp, LinkTestOff, LinkTestOn}
-use Rattle.repeater.specs.declared.commands.Query.{Query}
-use Rattle.repeater.specs.declared.repeater.Repeater.{Repeater}
-use Rattle.repeater.specs.declared.repeater.Those.the-variants.{Partitioned, Linked}
-use Rattle.repeater.specs.Port.{noPort, withLink}
+use Rattle.port.specs.declared.Port.{Port}
+use Rattle.port.specs.declared.Change.{Change}
+use Rattle.port.specs.declared.Change.the-variants.{Disabling, EnablingTp, EnablingAui, StoppingTest, StartingTest}
+use Rattle.burst.specs.declared.Burst.{Burst}
+use Rattle.burst.specs.declared.Hearing.{Hearing}
+use Rattle.management.specs.declared.Setting.{Setting}
+use Rattle.management.specs.declared.Setting.the-variants.{AlternateAui, AlternateTp, DisableAui, EnableAui, DisableTp, EnableTp, LinkTestOff, LinkTestOn}
+use Rattle.management.specs.declared.Query.{Query}
+use Rattle.repeater.specs.declared.Repeater.{Repeater}
+use Rattle.repeater.specs.declared.Those.the-variants.{Partitioned, Linked}
+use Rattle.port.specs.Port.{noPort}
 use Rattle.repeater.specs.Reset.{powerUp}
-use Rattle.repeater.specs.Burst.{hearingOf, effectOf}
-use Rattle.repeater.specs.Commands.{changed}
-use Rattle.repeater.specs.Link.{ticked, pulsed, revived, tickedAt, pulsedAt, revivedAt}
+use Rattle.repeater.specs.Hearing.{hearingOf}
+use Rattle.burst.specs.Burst.{effectOf}
+use Rattle.port.specs.Settings.{changed}
+use Rattle.port.specs.Link.{tickedAt, pulsedAt}
 use Rattle.repeater.specs.Repeater.{tickedAll, pulsedAll, portAfter, followed, burstOf, changedAt, changedTp, setTo, gotOf, among, thoseOf, partitionedOf, linkedOf}
 use Rattle.repeater.proofs.RepeaterLaws.{those-lt}
+use Rattle.port.proofs.Kept.{Unlinked, ticked-at-keeps, pulsed-at-keeps}
 
 -- WHAT LOOKS AT NO LINK
 
-abbrev pub Unlinked : {B : Type 0} → (Port → B) → Type 0
-Unlinked q = (p : Port) (pass : Bool) (idle pulses : ℕ) → q (withLink p pass idle pulses) ≡ q p
-
 module _ {B : Type 0} (q : Port → B) (h : Unlinked q) where
-  -- whichever way a choice goes
-  either : (b : Bool) (p x y : Port) → q x ≡ q p → q y ≡ q p → q (cond b x y) ≡ q p
-  either true p x y k l = k
-  either false p x y k l = l
-
-  ticked-keeps : (p : Port) → q (ticked p) ≡ q p
-  unfolding ticked
-  ticked-keeps p = either (p .«link_test») p _ p (either (leb 100 (p .idle + 1)) p _ _ (h p _ _ _) (h p _ _ _)) refl
-
-  pulsed-keeps : (p : Port) → q (pulsed p) ≡ q p
-  unfolding pulsed
-  pulsed-keeps p =
-      either (p .«link_test») p _ p
-      (either (p .«link_pass») p _ _ (h p _ _ _) (either (leb 4 (p .pulses + 1)) p _ _ (h p _ _ _) (h p _ _ _)))
-      refl
-
-  revived-keeps : (p : Port) → q (revived p) ≡ q p
-  unfolding revived
-  revived-keeps p = either (p .«link_test») p _ p (h p _ _ _) refl
-
-  pub ticked-at-keeps : (i : ℕ) (p : Port) → q (tickedAt i p) ≡ q p
-  unfolding tickedAt
-  ticked-at-keeps i p = either (ltb i aui) p (ticked p) p (ticked-keeps p) refl
-
-  pub pulsed-at-keeps : (m i : ℕ) (p : Port) → q (pulsedAt m i p) ≡ q p
-  unfolding pulsedAt
-  pulsed-at-keeps m i p = either (ltb i aui) p (cond (has m i) (pulsed p) p) p (either (has m i) p (pulsed p) p (pulsed-keeps p) refl) refl
-
-  pub revived-at-keeps : (m i : ℕ) (p : Port) → q (revivedAt m i p) ≡ q p
-  unfolding revivedAt
-  revived-at-keeps m i p = either (ltb i aui) p (cond (has m i) (revived p) p) p (either (has m i) p (revived p) p (revived-keeps p) refl) refl
-
   pub ticks-keep : (r : Repeater) (i : ℕ) → q (getD (tickedAll r .ports) i noPort) ≡ q (getD (r .ports) i noPort)
   unfolding tickedAll
-  ticks-keep r i = each-keeps q tickedAt (r .ports) i noPort ticked-at-keeps
+  ticks-keep r i = each-keeps q tickedAt (r .ports) i noPort (ticked-at-keeps q h)
 
   pub pulses-keep : (r : Repeater) (m i : ℕ) → q (getD (pulsedAll r m .ports) i noPort) ≡ q (getD (r .ports) i noPort)
   unfolding pulsedAll
-  pulses-keep r m i = each-keeps q (pulsedAt m) (r .ports) i noPort (pulsed-at-keeps m)
+  pulses-keep r m i = each-keeps q (pulsedAt m) (r .ports) i noPort (pulsed-at-keeps q h m)
 
 -- WHO IS PARTITIONED
 

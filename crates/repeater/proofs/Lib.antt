@@ -1,12 +1,8 @@
 -- Laws of the definitions, and theorems that belong to no one function.
-pub mod PortLaws
-pub mod BurstLaws
-pub mod PartitionLaws
-pub mod CommandLaws
+pub mod MeetingLaws
 pub mod RepeaterLaws
-pub mod StatusLaws
 pub mod Kept
+pub mod Hearing
 pub mod Events
-pub mod Heard
 pub mod Sound
 pub mod Sheet

@@ -1,25 +1,26 @@
 -- Laws of the whole repeater's definitions, as the code makes them. Assumes nothing.
 use Prim.Native.Nat.{ℕ, zero, suc, _-_, _%_, _≤_, _<_}
-use mathlib.Core.Path.{_≡_, refl, sym, ap, _∙_}
-use mathlib.Core.Bool.{Bool, true, false, not, _&&_, and-false}
+use mathlib.Core.Path.{_≡_, refl, ap, _∙_}
+use mathlib.Core.Bool.{Bool, false, not, and-false}
 use mathlib.Core.List.{List}
 use native.Mathlib.Omega.{arith}
 use lib.Dec.{ltb}
 use lib.Bits.{bitAnd, and-le-l}
 use borrow.Author.Tests.{lt-ltb}
 use lib.ListN.{length, getD, List·getD-eq-default}
-use Rattle.ports.specs.Sets.{aui, has, gather, setOf}
+use Rattle.ports.specs.Sets.{has, gather, setOf}
 use Rattle.ports.proofs.Sets.{gatherFrom, from-all, gather-more, gather-lt, has-gather, has-and, has-others, has-mod, is-gather, low-byte}
-use Rattle.repeater.specs.declared.port.Port.{Port}
-use Rattle.repeater.specs.declared.burst.Burst.{Burst}
-use Rattle.repeater.specs.declared.burst.Heard.{Heard}
-use Rattle.repeater.specs.declared.burst.Hearing.{Hearing}
-use Rattle.repeater.specs.declared.repeater.Those.{Those}
-use Rattle.repeater.specs.declared.repeater.Those.the-variants.{Transmitting, Listening, Partitioned, Linked, Enabled}
-use Rattle.repeater.specs.Port.{noPort}
-use Rattle.repeater.specs.Burst.{inE, inT, inL, inH, transmits, listens, heardOf, hearingOf}
-use Rattle.repeater.specs.declared.repeater.Repeater.{Repeater}
-use Rattle.repeater.specs.Commands.{connectedAt, passingAt}
+use Rattle.port.specs.declared.Port.{Port}
+use Rattle.burst.specs.declared.Burst.{Burst}
+use Rattle.burst.specs.declared.Heard.{Heard}
+use Rattle.burst.specs.declared.Hearing.{Hearing}
+use Rattle.repeater.specs.declared.Those.{Those}
+use Rattle.repeater.specs.declared.Those.the-variants.{Transmitting, Listening, Partitioned, Linked, Enabled}
+use Rattle.port.specs.Port.{noPort}
+use Rattle.burst.specs.Burst.{inE, heardOf}
+use Rattle.repeater.specs.Hearing.{inL, inH, transmits, listens, hearingOf}
+use Rattle.repeater.specs.declared.Repeater.{Repeater}
+use Rattle.repeater.specs.Answers.{connectedAt, passingAt}
 use Rattle.repeater.specs.Repeater.{among, thoseOf, partitionedOf, linkedOf}
 
 -- where there is no port, none is among them

@@ -1,7 +1,6 @@
 -- Document 01, 'Partition' and 'Reset and power-up': what a burst or a Set is to one port of the repeater, as an event of its history, and where the port stands.
 -- proofs/Events.antt proves that the repeater moves each port as the events say. The layer above turns its records into inputs of the repeater, or into none.
---   standingOf p       == connected with its count, or partitioned; standingAt r i, for the port at place i
---   eventOf m          == the event that a burst is to a port of T
+--   standingAt r i     == how the port at place i stands
 --   followedEvent, burstEvent == the event that a burst is to port i, of T or not: for a given hearing, and for the repeater's own
 --   disables s i       == the Set s is the disabling of port i
 --   setEvent s r i     == the event that a Set is to port i
@@ -14,29 +13,22 @@ use mathlib.Core.List.{List, [], _∷_}
 use lib.Dec.{eqb, ltb}
 use lib.ListN.{getD}
 use Rattle.ports.specs.Sets.{aui, has}
-use Rattle.repeater.specs.declared.port.Port.{Port}
-use Rattle.repeater.specs.declared.port.Meeting.{Meeting}
-use Rattle.repeater.specs.declared.burst.Burst.{Burst}
-use Rattle.repeater.specs.declared.burst.Hearing.{Hearing}
-use Rattle.repeater.specs.declared.commands.Setting.{Setting}
-use Rattle.repeater.specs.declared.commands.Setting.the-variants.{AlternateAui, AlternateTp, DisableAui, EnableAui, DisableTp, EnableTp, LinkTestOff, LinkTestOn}
-use Rattle.repeater.specs.declared.commands.Query.{Query}
-use Rattle.repeater.specs.declared.repeater.Repeater.{Repeater}
-use Rattle.repeater.specs.Port.{noPort}
+use Rattle.burst.specs.declared.Burst.{Burst}
+use Rattle.burst.specs.declared.Hearing.{Hearing}
+use Rattle.management.specs.declared.Setting.{Setting}
+use Rattle.management.specs.declared.Setting.the-variants.{AlternateAui, AlternateTp, DisableAui, EnableAui, DisableTp, EnableTp, LinkTestOff, LinkTestOn}
+use Rattle.management.specs.declared.Query.{Query}
+use Rattle.repeater.specs.declared.Repeater.{Repeater}
+use Rattle.port.specs.Port.{noPort}
 use Rattle.repeater.specs.Reset.{powerUp}
-use Rattle.repeater.specs.Burst.{hearingOf, effectOf}
-use Rattle.repeater.specs.Partition.{meetingOf}
+use Rattle.repeater.specs.Hearing.{hearingOf, meetingOf}
+use Rattle.burst.specs.Burst.{effectOf}
 use Rattle.repeater.specs.Repeater.{alternateFor, tickedAll, pulsedAll, burstOf, setTo, gotOf}
-use Rattle.history.specs.History.{Event, collided, clean, neither, cleared, Standing, connected, partitioned}
-
-abbrev pub standingOf : Port → Standing
-standingOf p = cond (p .partitioned) partitioned (connected (p .count))
+use Rattle.history.specs.History.{Event, neither, cleared, Standing}
+use Rattle.port.specs.Standing.{standingOf, eventOf}
 
 abbrev pub standingAt : Repeater → ℕ → Standing
 standingAt r i = standingOf (getD (r .ports) i noPort)
-
-unfoldable pub eventOf : Meeting → Event
-eventOf m = cond (m .collided) (collided (m .x)) (cond (m .clean) (clean (m .reconnecting)) neither)
 
 unfoldable pub followedEvent : Repeater → Hearing → Burst → ℕ → Event
 followedEvent r g b i =

@@ -1,11 +1,7 @@
--- The repeater's rules, a file for each section of document 01.
-pub mod Port
+-- The repeater's rules, from those of a port and of a burst.
 pub mod Reset
-pub mod Burst
-pub mod Partition
-pub mod Link
-pub mod Status
-pub mod Commands
+pub mod Hearing
+pub mod Answers
 pub mod Repeater
 pub mod Events
 pub mod Sound

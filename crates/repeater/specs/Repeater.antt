@@ -6,33 +6,38 @@
 --   partitionedOf, linkedOf, enabledOf == the masks that the layer above may ask for
 -- Assumes nothing.
 use Prim.Native.Nat.{ℕ}
-use mathlib.Core.Bool.{Bool, true, false, cond, _&&_}
+use mathlib.Core.Bool.{Bool, true, cond, _&&_}
 use mathlib.Core.List.{List}
 use lib.Dec.{eqb, ltb}
 use lib.ListN.{getD, set}
 use Rattle.ports.specs.Sets.{aui, has, setOf}
 use Rattle.ports.specs.Each.{each}
-use Rattle.repeater.specs.declared.port.Port.{Port}
-use Rattle.repeater.specs.declared.port.Change.{Change}
-use Rattle.repeater.specs.declared.port.Change.the-variants.{Disabling, EnablingTp, EnablingAui, StoppingTest, StartingTest}
-use Rattle.repeater.specs.declared.status.Status.{Status}
-use Rattle.repeater.specs.declared.burst.Burst.{Burst}
-use Rattle.repeater.specs.declared.burst.Hearing.{Hearing}
-use Rattle.repeater.specs.declared.burst.Effect.{Effect}
-use Rattle.repeater.specs.declared.commands.Setting.{Setting}
-use Rattle.repeater.specs.declared.commands.Setting.the-variants.{AlternateAui, AlternateTp, DisableAui, EnableAui, DisableTp, EnableTp, LinkTestOff, LinkTestOn}
-use Rattle.repeater.specs.declared.commands.Query.{Query}
-use Rattle.repeater.specs.declared.repeater.Repeater.{Repeater}
-use Rattle.repeater.specs.declared.repeater.Bursted.{Bursted}
-use Rattle.repeater.specs.declared.repeater.Got.{Got}
-use Rattle.repeater.specs.declared.repeater.Those.{Those}
-use Rattle.repeater.specs.declared.repeater.Those.the-variants.{Transmitting, Listening, Partitioned, Linked, Enabled}
-use Rattle.repeater.specs.Port.{noPort}
-use Rattle.repeater.specs.Burst.{transmits, listens, hearingOf, effectOf}
-use Rattle.repeater.specs.Partition.{meetingOf, afterMeeting}
-use Rattle.repeater.specs.Link.{tickedAt, pulsedAt, revivedAt}
-use Rattle.repeater.specs.Status.{marksOf, marked}
-use Rattle.repeater.specs.Commands.{changed, answerOf, clearedBy}
+use Rattle.port.specs.declared.Port.{Port}
+use Rattle.port.specs.declared.Change.{Change}
+use Rattle.port.specs.declared.Change.the-variants.{Disabling, EnablingTp, EnablingAui, StoppingTest, StartingTest}
+use Rattle.management.specs.declared.Status.{Status}
+use Rattle.burst.specs.declared.Burst.{Burst}
+use Rattle.burst.specs.declared.Hearing.{Hearing}
+use Rattle.burst.specs.declared.Effect.{Effect}
+use Rattle.management.specs.declared.Setting.{Setting}
+use Rattle.management.specs.declared.Setting.the-variants.{AlternateAui, AlternateTp, DisableAui, EnableAui, DisableTp, EnableTp, LinkTestOff, LinkTestOn}
+use Rattle.management.specs.declared.Query.{Query}
+use Rattle.repeater.specs.declared.Repeater.{Repeater}
+use Rattle.repeater.specs.declared.Bursted.{Bursted}
+use Rattle.repeater.specs.declared.Got.{Got}
+use Rattle.repeater.specs.declared.Those.{Those}
+use Rattle.repeater.specs.declared.Those.the-variants.{Transmitting, Listening, Partitioned, Linked, Enabled}
+use Rattle.port.specs.Port.{noPort}
+use Rattle.repeater.specs.Hearing.{transmits, listens, hearingOf}
+use Rattle.burst.specs.Burst.{effectOf}
+use Rattle.repeater.specs.Hearing.{meetingOf}
+use Rattle.port.specs.Partition.{afterMeeting}
+use Rattle.port.specs.Link.{tickedAt, pulsedAt, revivedAt}
+use Rattle.burst.specs.Marks.{marksOf}
+use Rattle.management.specs.Status.{marked}
+use Rattle.port.specs.Settings.{changed}
+use Rattle.repeater.specs.Answers.{answerOf}
+use Rattle.management.specs.Status.{clearedBy}
 
 abbrev pub withPorts : Repeater → List Port → Repeater
 withPorts r ps = record { ports = ps; «alternate_aui» = r .«alternate_aui»; «alternate_tp» = r .«alternate_tp»; status = r .status }

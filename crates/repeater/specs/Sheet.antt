@@ -15,13 +15,13 @@ use Prim.Native.Nat.{ℕ}
 use mathlib.Core.Bool.{Bool, true, false}
 use mathlib.Core.List.{List, [], _∷_, _++_}
 use lib.ListN.{getD, replicate}
-use Rattle.repeater.specs.declared.burst.Burst.{Burst}
-use Rattle.repeater.specs.declared.burst.Word.{Word}
-use Rattle.repeater.specs.declared.burst.Word.the-variants.{Nil, Rep, Jam}
-use Rattle.repeater.specs.declared.burst.Effect.{Effect}
-use Rattle.repeater.specs.declared.commands.Setting.the-variants.{AlternateTp, DisableAui, DisableTp, EnableTp, LinkTestOff, LinkTestOn}
-use Rattle.repeater.specs.declared.repeater.Repeater.{Repeater}
-use Rattle.repeater.specs.Port.{noPort}
+use Rattle.burst.specs.declared.Burst.{Burst}
+use Rattle.burst.specs.declared.Word.{Word}
+use Rattle.burst.specs.declared.Word.the-variants.{Nil, Rep, Jam}
+use Rattle.burst.specs.declared.Effect.{Effect}
+use Rattle.management.specs.declared.Setting.the-variants.{AlternateTp, DisableAui, DisableTp, EnableTp, LinkTestOff, LinkTestOn}
+use Rattle.repeater.specs.declared.Repeater.{Repeater}
+use Rattle.port.specs.Port.{noPort}
 use Rattle.repeater.specs.Reset.{powerUp}
 use Rattle.repeater.specs.Repeater.{burstOf}
 use Rattle.history.specs.History.{Event, collided, clean, neither, cleared, Standing, connected, partitioned}

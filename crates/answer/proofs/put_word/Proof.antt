@@ -1,7 +1,7 @@
 -- `answer::put_word` meets its contract. Each word by its own text. Assumes nothing.
 use mathlib.Core.Path.{ap, sym}
 use mathlib.Core.List.{_∷_}
-use Rattle.repeater.specs.declared.burst.Word.{Word}
+use Rattle.burst.specs.declared.Word.{Word}
 use Rattle.answer.specs.Line.{space, named}
 use Rattle.answer.proofs.Pieces.{put-as}
 use borrow.Author.Needs.{needs}

@@ -1,5 +1,5 @@
 use Rattle.attributes.specs.Credits.{changedOf}
-use Rattle.repeater.specs.declared.burst.Heard.{Heard}
+use Rattle.burst.specs.declared.Heard.{Heard}
 use mathlib.Core.Path.{sym, ap, _∙_}
 use borrow.Author.Needs.{needs}
 use Rattle.attributes.proofs.changed.Statement.{statement}

@@ -1,5 +1,5 @@
-use Rattle.repeater.specs.Status.{alone}
-use Rattle.repeater.specs.declared.burst.Heard.{Heard}
+use Rattle.burst.specs.Marks.{alone}
+use Rattle.burst.specs.declared.Heard.{Heard}
 use mathlib.Core.Path.{sym, ap}
 use borrow.Author.Needs.{needs}
 use Rattle.attributes.proofs.is_alone.Statement.{statement}

@@ -11,8 +11,8 @@ use Rattle.himib.proofs.core.Core.move_by.Reads as move-by-reads
 use Rattle.himib.proofs.core.Core.total.Reads as total-reads
 use Rattle.himib.proofs.core.wire.Reads as wire-reads
 use Rattle.ports.proofs.less.Reads as less-reads
-use Rattle.repeater.proofs.repeater.Repeater.burst.Reads as burst-reads
-use Rattle.repeater.proofs.repeater.Repeater.partitioned.Reads as partitioned-reads
+use Rattle.repeater.proofs.Repeater.burst.Reads as burst-reads
+use Rattle.repeater.proofs.Repeater.partitioned.Reads as partitioned-reads
 
 wire-requires : tie.Need-wire-requires
 wire-requires c κs = search needs

@@ -7,7 +7,7 @@ use Rattle.himib.proofs.step.pulse.Tie as tie
 use Rattle.himib.proofs.step.pulse.Reads as reads
 use Rattle.himib.proofs.step.pulse.Lts as lts
 use Rattle.himib.proofs.core.Core.move_by.Reads as move-by-reads
-use Rattle.repeater.proofs.repeater.Repeater.pulse.Reads as pulse-reads
+use Rattle.repeater.proofs.Repeater.pulse.Reads as pulse-reads
 
 pulse-requires : tie.Need-pulse-requires
 pulse-requires c κs = search needs

@@ -7,7 +7,7 @@ use Rattle.himib.proofs.step.tick.Tie as tie
 use Rattle.himib.proofs.step.tick.Reads as reads
 use Rattle.himib.proofs.step.tick.Lts as lts
 use Rattle.himib.proofs.core.Core.move_by.Reads as move-by-reads
-use Rattle.repeater.proofs.repeater.Repeater.tick.Reads as tick-reads
+use Rattle.repeater.proofs.Repeater.tick.Reads as tick-reads
 
 tick-requires : tie.Need-tick-requires
 tick-requires c κs = search needs

@@ -5,7 +5,7 @@ use Rattle.himib.proofs.core.Core.move_by.Reads as reads
 use Rattle.himib.proofs.core.Core.move_by.Lts as lts
 use Rattle.himib.proofs.core.events.Reads as events-reads
 use Rattle.himib.proofs.core.note.Reads as note-reads
-use Rattle.repeater.proofs.repeater.Repeater.linked.Reads as linked-reads
+use Rattle.repeater.proofs.Repeater.linked.Reads as linked-reads
 
 linked-requires : tie.Need-linked-requires
 linked-requires c κs = search needs

@@ -5,7 +5,7 @@ use Rattle.himib.proofs.core.Core.move_to.Tie as tie
 use Rattle.himib.proofs.core.Core.move_to.Reads as reads
 use Rattle.himib.proofs.core.Core.move_to.Lts as lts
 use Rattle.himib.proofs.core.Core.move_by.Reads as move-by-reads
-use Rattle.repeater.proofs.repeater.Repeater.partitioned.Reads as partitioned-reads
+use Rattle.repeater.proofs.Repeater.partitioned.Reads as partitioned-reads
 
 partitioned-requires : tie.Need-partitioned-requires
 partitioned-requires c κs = search needs

@@ -1,6 +1,6 @@
 use mathlib.Core.Path.{sym, ap, _∙_}
 use Rattle.himib.specs.Access.{obeyed}
-use Rattle.repeater.specs.declared.commands.Command.{Command}
+use Rattle.management.specs.declared.Command.{Command}
 use borrow.Author.Needs.{needs}
 use Rattle.himib.proofs.core.Core.obey.Statement.{statement}
 use Rattle.himib.proofs.core.Core.obey.Tie as tie

@@ -5,7 +5,7 @@ use Rattle.himib.proofs.core.Core.obey_get.Tie as tie
 use Rattle.himib.proofs.core.Core.obey_get.Reads as reads
 use Rattle.himib.proofs.core.Core.obey_get.Lts as lts
 use Rattle.himib.proofs.core.Core.move_to.Reads as move-to-reads
-use Rattle.repeater.proofs.repeater.Repeater.get.Reads as get-reads
+use Rattle.repeater.proofs.Repeater.get.Reads as get-reads
 
 get-requires : tie.Need-get-requires
 get-requires c κs = search needs

@@ -5,7 +5,7 @@ use Rattle.himib.proofs.core.Core.obey_set.Tie as tie
 use Rattle.himib.proofs.core.Core.obey_set.Reads as reads
 use Rattle.himib.proofs.core.Core.obey_set.Lts as lts
 use Rattle.himib.proofs.core.Core.move_to.Reads as move-to-reads
-use Rattle.repeater.proofs.repeater.Repeater.set.Reads as set-reads
+use Rattle.repeater.proofs.Repeater.set.Reads as set-reads
 
 set-requires : tie.Need-set-requires
 set-requires c κs = search needs

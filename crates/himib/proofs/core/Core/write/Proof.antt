@@ -1,7 +1,7 @@
 use mathlib.Core.Bool.{true, false}
 use mathlib.Core.Path.{sym, ap, _∙_}
 use Rattle.himib.specs.Access.{written, obeyed}
-use Rattle.repeater.specs.declared.commands.Command.{Command}
+use Rattle.management.specs.declared.Command.{Command}
 use Rattle.host.specs.declared.Register.{Register}
 use borrow.Author.Needs.{needs}
 use Rattle.himib.proofs.core.Core.write.Statement.{statement}
@@ -10,7 +10,7 @@ use Rattle.himib.proofs.core.Core.write.Reads as reads
 use Rattle.himib.proofs.core.Core.write.Lts as lts
 use Rattle.himib.proofs.core.Core.enable.Reads as enable-reads
 use Rattle.himib.proofs.core.Core.obey.Reads as obey-reads
-use Rattle.repeater.proofs.commands.decode.Reads as decode-reads
+use Rattle.management.proofs.decode.Reads as decode-reads
 
 enum-told : tie.Need-enum-told
 enum-told c = search needs

@@ -13,7 +13,7 @@ use Rattle.himib.proofs.step.Acted.turn_away.Reads as turn-away-reads
 use Rattle.host.proofs.register_at.Reads as register-at-reads
 use Rattle.host.proofs.size.Reads as size-reads
 use Rattle.host.proofs.writable.Reads as writable-reads
-use Rattle.repeater.proofs.commands.decode.Reads as decode-reads
+use Rattle.management.proofs.decode.Reads as decode-reads
 
 register-at-requires : tie.Need-register-at-requires
 register-at-requires c κs = search needs

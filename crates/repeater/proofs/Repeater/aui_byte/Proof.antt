@@ -1,0 +1,48 @@
+use native.Mathlib.Omega.{arith}
+use borrow.Author.Needs.{needs}
+use Rattle.repeater.proofs.Repeater.aui_byte.Statement.{statement}
+use Rattle.repeater.proofs.Repeater.aui_byte.Tie as tie
+use Rattle.repeater.proofs.Repeater.aui_byte.Reads as reads
+use Rattle.repeater.proofs.Repeater.aui_byte.Lts as lts
+use Rattle.repeater.proofs.weight.Reads as weight-reads
+
+array-copy-out-p : tie.Need-array-copy-out-p
+array-copy-out-p c = search needs
+
+weight-requires : tie.Need-weight-requires
+weight-requires c κs = search needs
+
+weight-requires-2 : tie.Need-weight-requires-2
+weight-requires-2 c κs = search needs
+
+add-result : tie.Need-add-result
+add-result c = omega arith
+
+weight-requires-3 : tie.Need-weight-requires-3
+weight-requires-3 c κs = search needs
+
+add-result-2 : tie.Need-add-result-2
+add-result-2 c = omega arith
+
+weight-requires-4 : tie.Need-weight-requires-4
+weight-requires-4 c κs = search needs
+
+add-result-3 : tie.Need-add-result-3
+add-result-3 c = omega arith
+
+returns : tie.Need-returns
+returns c = rw (c .before .before .before .weight .ensures .0, c .before .before .weight2 .ensures .0, c .before .weight3 .ensures .0, c .weight4 .ensures .0)
+
+pub aui-byte-spec : {M : Type 1} → statement M
+aui-byte-spec =
+    tie.close
+    (tie.spec
+    array-copy-out-p
+    weight-requires
+    weight-requires-2
+    add-result
+    weight-requires-3
+    add-result-2
+    weight-requires-4
+    add-result-3
+    returns)

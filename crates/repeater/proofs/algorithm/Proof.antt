@@ -1,0 +1,14 @@
+use borrow.Author.Tests.{eq-eqb, ne-eqb}
+use Rattle.repeater.proofs.algorithm.Statement.{statement}
+use Rattle.repeater.proofs.algorithm.Tie as tie
+use Rattle.repeater.proofs.algorithm.Reads as reads
+use Rattle.repeater.proofs.algorithm.Lts as lts
+
+returns : tie.Need-returns
+returns c = simp (eq-eqb _ _ (c .if1 .taken))
+
+returns-2 : tie.Need-returns-2
+returns-2 c = simp (ne-eqb _ _ (c .if1 .left))
+
+pub algorithm-spec : {M : Type 1} → statement M
+algorithm-spec = tie.close (tie.spec returns returns-2)

@@ -1,0 +1,22 @@
+use borrow.Author.Needs.{needs}
+use Rattle.repeater.proofs.meeting.Statement.{statement}
+use Rattle.repeater.proofs.meeting.Tie as tie
+use Rattle.repeater.proofs.meeting.Reads as reads
+use Rattle.repeater.proofs.meeting.Lts as lts
+use Rattle.ports.proofs.contains.Reads as contains-reads
+
+contains-requires : tie.Need-contains-requires
+contains-requires c κs = search needs
+
+contains-requires-2 : tie.Need-contains-requires-2
+contains-requires-2 c κs = search needs
+
+contains-requires-3 : tie.Need-contains-requires-3
+contains-requires-3 c κs = search needs
+
+returns : tie.Need-returns
+returns c = rw (c .before .before .contains .ensures, c .before .contains2 .ensures, c .contains3 .ensures)
+
+pub meeting-spec : {M : Type 1} → statement M
+meeting-spec =
+    tie.close (tie.spec contains-requires contains-requires-2 contains-requires-3 returns)

@@ -1,0 +1,23 @@
+use native.Mathlib.Omega.{arith}
+use lib.Seq.{set-out}
+use mathlib.Core.Path.{sym}
+use borrow.Author.Needs.{needs}
+use Rattle.repeater.proofs.with_port.Statement.{statement}
+use Rattle.repeater.proofs.with_port.Tie as tie
+use Rattle.repeater.proofs.with_port.Reads as reads
+use Rattle.repeater.proofs.with_port.Lts as lts
+
+mul-out : tie.Need-mul-out
+mul-out c = search needs
+
+array-set-from-out : tie.Need-array-set-from-out
+array-set-from-out c = search needs
+
+returns : tie.Need-returns
+returns c = search needs
+
+returns-2 : tie.Need-returns-2
+returns-2 c = sym (set-out _ _ _ (omega arith))
+
+pub with-port-spec : {M : Type 1} → statement M
+with-port-spec = tie.close (tie.spec mul-out array-set-from-out returns returns-2)
