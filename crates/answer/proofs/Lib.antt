@@ -8,4 +8,5 @@ pub mod Room
 pub mod Sample
 pub mod Numerals
 pub mod Newlines
+pub mod Shown
 pub mod Lines

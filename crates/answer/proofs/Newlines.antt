@@ -27,7 +27,7 @@ digit-none : (d : ℕ) → newlines (digit d ∷ []) ≡ 0
 unfolding newlines
 digit-none d = rw (ne-eqb (48 + d) 10 (λ e. omega arith))
 
-decimal-none : (n : ℕ) → newlines (decimal n) ≡ 0
+pub decimal-none : (n : ℕ) → newlines (decimal n) ≡ 0
 decimal-none = by-tenths (λ n. newlines (decimal n) ≡ 0) small more
   where
     small : (n : ℕ) → n < 10 → newlines (decimal n) ≡ 0
@@ -47,7 +47,7 @@ hex-none (suc k) v =
     rw (newlines-append (hex k (v / 16)) (getD glyphs (v % 16) 0 ∷ []), hex-none k (v / 16), glyph-none (v % 16) (omega arith))
 
 -- a word, a space and what stands behind it
-said-none : (word bs : List ℕ) → newlines word ≡ 0 → newlines bs ≡ 0 → newlines (word ++ space ∷ bs) ≡ 0
+pub said-none : (word bs : List ℕ) → newlines word ≡ 0 → newlines bs ≡ 0 → newlines (word ++ space ∷ bs) ≡ 0
 unfolding newlines
 said-none word bs p q = rw (newlines-append word (space ∷ bs), p, q)
 
@@ -57,7 +57,7 @@ named-none Nil = refl
 named-none Rep = refl
 named-none Jam = refl
 
-said-has-none : (a : Answer) → newlines (saidOf a) ≡ 0
+pub said-has-none : (a : Answer) → newlines (saidOf a) ≡ 0
 unfolding newlines saidOf
 said-has-none Done = refl
 said-has-none (Sent w m) = said-none (named w) (hex 3 m) (named-none w) (hex-none 3 m)

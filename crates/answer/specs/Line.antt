@@ -8,10 +8,13 @@
 --   lineOf n a == the line of record n
 --   linesOf n answers == the lines of answers, one after the other, the first one that of record n
 --   newlines cs == how many newlines there are among bytes
+--   shownOf a  == what a line shows of an answer: its mask modulo 4096, its byte modulo 256, and all else
+--   LinesTell  == the lines of two lists of answers are the same exactly if they show the same answers
 -- Assumes nothing.
-use Prim.Native.Nat.{ℕ, _+_}
+use Prim.Native.Nat.{ℕ, _+_, _%_}
+use mathlib.Core.Path.{_≡_}
 use mathlib.Core.Bool.{cond}
-use mathlib.Core.List.{List, [], _∷_, _++_}
+use mathlib.Core.List.{List, [], _∷_, _++_, map}
 use lib.Dec.{eqb}
 use Rattle.burst.specs.declared.Word.{Word}
 use Rattle.burst.specs.declared.Word.the-variants.{Nil, Rep, Jam}
@@ -50,3 +53,15 @@ linesOf n (a ∷ rest) = lineOf n a ++ linesOf (n + 1) rest
 unfoldable pub newlines : List ℕ → ℕ
 newlines [] = 0
 newlines (c ∷ cs) = cond (eqb c newline) 1 0 + newlines cs
+
+abbrev pub shownOf : Answer → Answer
+shownOf Done = Done
+shownOf (Sent word mask) = Sent word (mask % 4096)
+shownOf (Value byte) = Value (byte % 256)
+shownOf (Refused number) = Refused number
+
+abbrev pub LinesTell : Type 0
+LinesTell =
+    (n : ℕ) (these those : List Answer)
+    → (linesOf n these ≡ linesOf n those → map shownOf these ≡ map shownOf those)
+    × (map shownOf these ≡ map shownOf those → linesOf n these ≡ linesOf n those)
