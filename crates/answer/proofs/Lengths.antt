@@ -2,7 +2,7 @@
 --   line-length-le, line-length-ge == a line has 5 to 29 bytes, for a record number of 64 bits and a refusal's number of 8
 use Prim.Native.Nat.{ℕ, _+_, _^_, _≤_, _<_}
 use mathlib.Core.Path.{_≡_, refl, ap, sym}
-use mathlib.Core.List.{List, [], _∷_, _++_}
+use mathlib.Core.List.{List}
 use native.Mathlib.Omega.{arith}
 use lib.ListN.{length, length-append}
 use Rattle.burst.specs.declared.Word.{Word}
@@ -10,8 +10,8 @@ use Rattle.burst.specs.declared.Word.the-variants.{Nil, Rep, Jam}
 use Rattle.answer.specs.declared.Answer.{Answer}
 use Rattle.answer.specs.declared.Answer.the-variants.{Done, Sent, Value, Refused}
 use Rattle.answer.specs.Answer.{numberOf}
-use Rattle.answer.specs.Numerals.{decimal, hex}
-use Rattle.answer.specs.Line.{space, newline, named, saidOf, tailOf, lineOf}
+use Rattle.answer.specs.Numerals.{decimal}
+use Rattle.answer.specs.Line.{named, saidOf, tailOf, lineOf}
 use Rattle.answer.specs.Put.{Put}
 use Rattle.answer.proofs.Digits.{decimal-length-le, decimal-length-pos}
 use Rattle.answer.proofs.Pieces.{put-as}

@@ -2,8 +2,8 @@
 --   line-ends   == a line ends with its newline
 --   line-newlines, lines-newlines == one newline for each answer
 use Prim.Native.Nat.{ℕ, zero, suc, _+_, _/_, _%_, _≤_, _<_}
-use mathlib.Core.Path.{_≡_, refl, ap, sym, _∙_}
-use mathlib.Core.Bool.{Bool, true, false, cond, not}
+use mathlib.Core.Path.{_≡_, refl, sym}
+use mathlib.Core.Bool.{not}
 use mathlib.Core.List.{List, [], _∷_, _++_, append-assoc}
 use native.Mathlib.Omega.{arith}
 use borrow.Author.Tests.{ne-eqb, not-true}
@@ -16,7 +16,7 @@ use Rattle.answer.specs.declared.Answer.the-variants.{Done, Sent, Value,
 use Rattle.answer.specs.Numerals.{digit, decimal, glyphs, hex}
 use Rattle.answer.specs.Line.{space, newline, named, saidOf, tailOf, lineOf, linesOf, newlines}
 use Rattle.answer.proofs.Digits.{decimal-small, decimal-more}
-use Rattle.answer.proofs.Numerals.{by-tenths, allBelow, below-holds}
+use Rattle.answer.proofs.Numerals.{by-tenths, below-holds}
 
 newlines-append : (xs ys : List ℕ) → newlines (xs ++ ys) ≡ newlines xs + newlines ys
 unfolding newlines

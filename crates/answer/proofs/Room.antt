@@ -2,12 +2,11 @@
 --   room, past-end, short-of-room == the three cases
 --   written, unwritten == what `put_line` shows with room and without
 use Prim.Native.Nat.{ℕ, _+_, _-_, _≤_, _<_}
-use mathlib.Core.Path.{_≡_, refl, _∙_}
-use mathlib.Core.Bool.{Bool, true, false, _&&_}
+use mathlib.Core.Path.{_≡_, _∙_}
+use mathlib.Core.Bool.{true, false}
 use mathlib.Core.List.{List}
 use native.Mathlib.Omega.{arith}
 use borrow.Author.Tests.{le-leb, lt-leb}
-use lib.Dec.{leb}
 use lib.ListN.{length}
 use lib.Seq.{sets-eq}
 use Rattle.answer.specs.declared.Answer.{Answer}

@@ -1,6 +1,6 @@
 -- Document 01, the end of 'Boundary sheet': the ten lines of its sample, and more lines and buffers, computed. The answers of the sample
 -- are those that document 01's records get: that they get them is no matter of this crate. Assumes nothing.
-use Prim.Native.Nat.{ℕ, _+_, _-_, _^_, _≤_, _<_}
+use Prim.Native.Nat.{_+_, _-_, _^_}
 use mathlib.Core.Path.{_≡_, refl}
 use mathlib.Core.Bool.{true}
 use mathlib.Core.List.{List, [], _∷_, _++_}

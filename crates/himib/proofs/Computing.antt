@@ -22,7 +22,7 @@ use Rattle.repeater.specs.Repeater.{tickedAll, pulsedAll, alternateFor, partiti
 use Rattle.host.specs.Map as Map
 use Rattle.host.specs.Sequence.{selected, placeFor, isLast, nextPlace, copied, readByte, wroteByte}
 use Rattle.attributes.specs.Credits.{classOf, sameAddress, newcomer, changedOf, shareOf, creditsOf, counted, creditedWith, creditedAt, octetsOf, transmitCollisionsOf}
-use Rattle.himib.specs.Changes.{eventsOf, noted, keptBits, pending}
+use Rattle.changes.specs.Changes.{eventsOf, noted, keptBits, pending}
 use Rattle.himib.specs.Chip.{moved}
 use Rattle.himib.specs.Bursts.{wired, burstCore, burstOn}
 use Rattle.himib.specs.Access.{valueOf, seen, obeyed, written, cReadOf, readOf, writeOf, dReadOf, dWriteOf}

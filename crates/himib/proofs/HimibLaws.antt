@@ -1,17 +1,16 @@
 -- The cases of the HIMIB's definitions, as the code asks them. Assumes nothing.
-use Prim.Native.Nat.{ℕ, _≤_, _<_}
+use Prim.Native.Nat.{ℕ, _≤_}
 use mathlib.Core.Path.{_≡_, refl, sym, ap, _∙_}
-use mathlib.Core.Bool.{Bool, true, false, cond, not, _&&_, true≢false}
+use mathlib.Core.Bool.{Bool, true, false, true≢false}
 use mathlib.Core.List.{List}
 use native.Mathlib.Omega.{arith}
 use borrow.Author.Tests.{eq-eqb, ne-eqb}
-use lib.Dec.{eqb}
 use lib.Bits.{xor-self}
 use Rattle.repeater.specs.declared.Repeater.{Repeater}
 use Rattle.repeater.specs.Repeater.{partitionedOf}
 use Rattle.host.specs.declared.Host.{Host}
 use Rattle.host.specs.declared.Register.{Register}
-use Rattle.host.specs.Map.{registerAt, sizeOf, readableReg, writableReg}
+use Rattle.host.specs.Map.{sizeOf, readableReg, writableReg}
 use Rattle.management.specs.Commands.{commandOf}
 use Rattle.attributes.specs.declared.Attributes.{Attributes}
 use Rattle.himib.specs.declared.core.Core.{Core}
@@ -19,7 +18,7 @@ use Rattle.record.specs.declared.Asked.{Asked}
 use Rattle.record.specs.declared.Asked.the-variants as ask
 use Rattle.himib.specs.declared.step.Chip.{Chip}
 use Rattle.himib.specs.Step.{restOn, actOn, afterAct, taken}
-use Rattle.himib.specs.Changes.{bit7}
+use Rattle.changes.specs.Changes.{bit7}
 use Rattle.himib.specs.Chip.{movedBy, moved}
 use Rattle.himib.specs.Access.{turnedAway, selectedBy, readOf, writeOf, dReadOf, dWriteOf, takesCommands, isListed}
 

@@ -8,11 +8,10 @@
 use Prim.Native.Nat.{ℕ, _+_}
 use mathlib.Core.Bool.{Bool, true, false, cond, not, _&&_, _||_}
 use mathlib.Core.List.{List}
-use lib.Dec.{eqb, ltb}
+use lib.Dec.{eqb}
 use lib.ListN.{getD, set}
 use Rattle.management.specs.declared.Command.{Command}
 use Rattle.management.specs.declared.Command.the-variants.{Set, Get, Unlisted}
-use Rattle.repeater.specs.declared.Got.{Got}
 use Rattle.management.specs.Commands.{commandOf}
 use Rattle.repeater.specs.Repeater.{setTo, gotOf}
 use Rattle.host.specs.declared.Host.{Host}
@@ -28,7 +27,7 @@ use Rattle.attributes.specs.Credits.{noAttributes}
 use Rattle.himib.specs.declared.core.Core.{Core}
 use Rattle.answer.specs.declared.Answer.the-variants.{Done, Value, Refused}
 use Rattle.himib.specs.declared.step.Acted.{Acted}
-use Rattle.himib.specs.Changes.{keptBits, pending, bit7}
+use Rattle.changes.specs.Changes.{keptBits, pending, bit7}
 use Rattle.himib.specs.Chip.{moved, withChanges, withEnables, withError, withG}
 
 -- no port: what an access that completes no address write names

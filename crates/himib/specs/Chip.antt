@@ -5,7 +5,7 @@
 --   moved c r ..     == the core with the repeater at r: what changed of partition and link, and the events given, is noted
 -- Assumes nothing.
 use Prim.Native.Nat.{ℕ}
-use mathlib.Core.Bool.{Bool, true, false}
+use mathlib.Core.Bool.{Bool, false}
 use mathlib.Core.List.{List}
 use lib.ListN.{replicate}
 use lib.Bits.{bitXor}
@@ -15,7 +15,7 @@ use Rattle.repeater.specs.Repeater.{partitionedOf, linkedOf}
 use Rattle.attributes.specs.declared.Attributes.{Attributes}
 use Rattle.himib.specs.declared.core.Core.{Core}
 use Rattle.himib.specs.declared.step.Chip.{Chip}
-use Rattle.himib.specs.Changes.{eventsOf, noted}
+use Rattle.changes.specs.Changes.{eventsOf, noted}
 
 abbrev pub coreUp : ℕ → ℕ → Core
 coreUp collisions octets = record {

@@ -1,5 +1,4 @@
 -- The HIMIB's rules, a file for each section of document 01.
-pub mod Changes
 pub mod Chip
 pub mod Bursts
 pub mod Access

@@ -4,14 +4,13 @@
 --   stepOf s h bs == the chip, the host's record and the answer after the bytes bs
 -- Assumes nothing.
 use Prim.Native.Nat.{ℕ}
-use mathlib.Core.Bool.{true, false, cond}
+use mathlib.Core.Bool.{false, cond}
 use mathlib.Core.List.{List}
 use lib.Dec.{ltb}
 use lib.ListN.{getD, set}
 use Rattle.record.specs.declared.Burst.{Burst}
 use Rattle.record.specs.declared.Asked as Ask
 use Rattle.record.specs.declared.Asked.the-variants as ask
-use Rattle.record.specs.declared.Record.{Record}
 use Rattle.record.specs.Refusals.{recordOf}
 use Rattle.repeater.specs.Repeater.{tickedAll, pulsedAll}
 use Rattle.host.specs.declared.Host.{Host}

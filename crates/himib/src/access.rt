@@ -38,28 +38,6 @@ fn index(i: u8) -> usize
     i as usize
 }
 
-// The byte of register R among eight, or 0 past the last.
-fn bits_at(bits: [u8; 8], i: usize) -> u8
-    ensures { λ r. ⌜ r ≡ getD bits i 0 ⌝ }
-{
-    if i < 8 {
-        return bits[i];
-    }
-    0
-}
-
-// The bytes with another at R.
-fn with_bits(bits: [u8; 8], i: usize, b: u8) -> [u8; 8]
-    ensures { λ r. ⌜ r ≡ set bits i b ⌝ }
-{
-    let mut out = bits;
-    if i < 8 {
-        out[i] = b;
-        return out;
-    }
-    out
-}
-
 // Counter R of a port, or 0 past the last.
 fn counter_at(nine: [Attributes; 9], p: usize, i: usize) -> u32
     ensures { λ r. ⌜ r ≡ getD (getD nine p noAttributes .counters) i 0 ⌝ }
@@ -102,8 +80,8 @@ impl Core {
             Register::Version => host::single(Core::DEVICE),
             Register::SetPort => host::single(0),
             Register::GetPort => host::single(self.g),
-            Register::Change(r) => host::single(bits_at(changes, index(r))),
-            Register::Enable(r) => host::single(bits_at(enables, index(r))),
+            Register::Change(r) => host::single(changes::bits_at(changes, index(r))),
+            Register::Enable(r) => host::single(changes::bits_at(enables, index(r))),
             Register::Counter(p, r) => host::spread(counter_at(nine, index(p), index(r))),
             Register::Address(p) => address_at(nine, index(p)),
         }
@@ -114,7 +92,7 @@ impl Core {
         ensures { λ c. ⌜ c ≡ seen (Register.Change r) self ⌝ }
     {
         let changes = self.changes;
-        let next = with_bits(changes, index(r), 0);
+        let next = changes::with_bits(changes, index(r), 0);
         self.changes = next;
         self
     }
@@ -176,7 +154,7 @@ impl Core {
         ensures { λ c. ⌜ c ≡ written (Register.Enable r) b self ⌝ }
     {
         let enables = self.enables;
-        let next = with_bits(enables, index(r), crate::core::keep_bits(r, b));
+        let next = changes::with_bits(enables, index(r), changes::keep_bits(r, b));
         self.enables = next;
         self
     }
@@ -205,7 +183,7 @@ impl Core {
     {
         let changes = self.changes;
         let enables = self.enables;
-        let interrupt = crate::core::bit_7(crate::core::is_pending(changes, enables));
+        let interrupt = changes::bit_7(changes::is_pending(changes, enables));
         let byte = with_error(interrupt, self.interface_error);
         self.interface_error = false;
         Acted {

@@ -36,7 +36,7 @@ use Rattle.attributes.specs.Credits.{noAttributes, changedOf, creditedAt}
 use Rattle.himib.specs.declared.core.Core.{Core}
 use Rattle.himib.specs.declared.step.Chip.{Chip}
 use Rattle.himib.specs.declared.step.Stepped.{Stepped}
-use Rattle.himib.specs.Changes.{bit7, eventsOf, noted}
+use Rattle.changes.specs.Changes.{bit7, eventsOf, noted}
 use Rattle.himib.specs.Bursts.{wired, cutBy, burstCore, burstOn}
 use Rattle.himib.specs.Chip.{moved, withChanges}
 use Rattle.himib.specs.Access.{cReadOf, obeyed, selectedBy}

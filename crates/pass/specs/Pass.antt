@@ -36,7 +36,7 @@ use Rattle.himib.specs.Bursts.{wired}
 use Rattle.himib.specs.Access.{selectedBy, valueOf, addressOf}
 use Rattle.himib.specs.Step.{stepOf}
 use Rattle.himib.specs.Octets.{differenceOf, checkOf}
-use Rattle.pass.specs.Runs.{Point, Happening, happening, history, run, start, Given, asked, source, kindOf, accepted, selects, writes, reads, resets, ifBurst, repeaterAt, partitionedAt, linkedAt, enabledAt, counterAt, transmitCollisions, totalOctets, addressAt}
+use Rattle.pass.specs.Runs.{Point, Happening, happening, history, run, start, Given, asked, source, kindOf, selects, writes, reads, resets, ifBurst, repeaterAt, partitionedAt, linkedAt, enabledAt, counterAt, transmitCollisions, totalOctets, addressAt}
 
 -- ---- Demand 1: every record is answered, and what is turned away changes nothing
 

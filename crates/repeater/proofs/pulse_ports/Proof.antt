@@ -1,4 +1,4 @@
-use Rattle.port.specs.Link.{tickedAt, pulsedAt}
+use Rattle.port.specs.Link.{pulsedAt}
 use Rattle.ports.proofs.Each.{done-none, done-more, done-all}
 use Rattle.ports.specs.Each.{done}
 use borrow.Author.Needs.{needs}

@@ -1,10 +1,9 @@
 use Rattle.start.specs.Start.{littleAt, countersIn}
 use Rattle.ports.proofs.Each.{done-none, done-more, done-all}
 use Rattle.ports.specs.Each.{done}
-use lib.ListN.{getD}
 use borrow.Author.Needs.{needs}
 use native.Mathlib.Omega.{arith}
-use mathlib.Core.Path.{_≡_, _∙_, refl}
+use mathlib.Core.Path.{_≡_, _∙_}
 use Prim.Native.Nat.{_≤_, _-_, _+_, _*_}
 use Rattle.start.proofs.counters.Statement.{statement}
 use Rattle.start.proofs.counters.Tie as tie

@@ -2,11 +2,10 @@ use Rattle.attributes.specs.Credits.{noAttributes}
 use Rattle.start.specs.Start.{attributesIn, nineIn}
 use Rattle.ports.proofs.Each.{done-none, done-more, done-all}
 use Rattle.ports.specs.Each.{done}
-use lib.ListN.{getD}
 use borrow.Author.Needs.{needs}
 use native.Mathlib.Omega.{arith}
-use mathlib.Core.Path.{_≡_, _∙_, refl}
-use Prim.Native.Nat.{_≤_, _-_, _+_, _*_}
+use mathlib.Core.Path.{_≡_, _∙_}
+use Prim.Native.Nat.{_≤_, _-_}
 use Rattle.start.proofs.nine_in.Statement.{statement}
 use Rattle.start.proofs.nine_in.Tie as tie
 use Rattle.start.proofs.nine_in.Reads as reads

@@ -5,7 +5,7 @@ use Rattle.himib.proofs.core.Core.clear_change.Tie as tie
 use Rattle.himib.proofs.core.Core.clear_change.Reads as reads
 use Rattle.himib.proofs.core.Core.clear_change.Lts as lts
 use Rattle.himib.proofs.access.index.Reads as index-reads
-use Rattle.himib.proofs.access.with_bits.Reads as with-bits-reads
+use Rattle.changes.proofs.with_bits.Reads as with-bits-reads
 
 index-requires : tie.Need-index-requires
 index-requires c κs = search needs

@@ -5,8 +5,8 @@ use Rattle.himib.proofs.core.Core.enable.Tie as tie
 use Rattle.himib.proofs.core.Core.enable.Reads as reads
 use Rattle.himib.proofs.core.Core.enable.Lts as lts
 use Rattle.himib.proofs.access.index.Reads as index-reads
-use Rattle.himib.proofs.access.with_bits.Reads as with-bits-reads
-use Rattle.himib.proofs.core.keep_bits.Reads as keep-bits-reads
+use Rattle.changes.proofs.with_bits.Reads as with-bits-reads
+use Rattle.changes.proofs.keep_bits.Reads as keep-bits-reads
 
 index-requires : tie.Need-index-requires
 index-requires c κs = search needs

@@ -3,8 +3,8 @@ use Rattle.himib.proofs.core.Core.move_by.Statement.{statement}
 use Rattle.himib.proofs.core.Core.move_by.Tie as tie
 use Rattle.himib.proofs.core.Core.move_by.Reads as reads
 use Rattle.himib.proofs.core.Core.move_by.Lts as lts
-use Rattle.himib.proofs.core.events.Reads as events-reads
-use Rattle.himib.proofs.core.note.Reads as note-reads
+use Rattle.changes.proofs.events.Reads as events-reads
+use Rattle.changes.proofs.note.Reads as note-reads
 use Rattle.repeater.proofs.Repeater.linked.Reads as linked-reads
 
 linked-requires : tie.Need-linked-requires

@@ -6,8 +6,8 @@ use Rattle.himib.proofs.core.Core.read_c.Tie as tie
 use Rattle.himib.proofs.core.Core.read_c.Reads as reads
 use Rattle.himib.proofs.core.Core.read_c.Lts as lts
 use Rattle.himib.proofs.access.with_error.Reads as with-error-reads
-use Rattle.himib.proofs.core.bit_7.Reads as bit-7-reads
-use Rattle.himib.proofs.core.is_pending.Reads as is-pending-reads
+use Rattle.changes.proofs.bit_7.Reads as bit-7-reads
+use Rattle.changes.proofs.is_pending.Reads as is-pending-reads
 
 is-pending-requires : tie.Need-is-pending-requires
 is-pending-requires c κs = search needs

@@ -7,7 +7,7 @@ use Rattle.himib.proofs.core.Core.value.Tie as tie
 use Rattle.himib.proofs.core.Core.value.Reads as reads
 use Rattle.himib.proofs.core.Core.value.Lts as lts
 use Rattle.himib.proofs.access.address_at.Reads as address-at-reads
-use Rattle.himib.proofs.access.bits_at.Reads as bits-at-reads
+use Rattle.changes.proofs.bits_at.Reads as bits-at-reads
 use Rattle.himib.proofs.access.counter_at.Reads as counter-at-reads
 use Rattle.himib.proofs.access.index.Reads as index-reads
 use Rattle.host.proofs.single.Reads as single-reads

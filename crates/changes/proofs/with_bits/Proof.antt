@@ -2,10 +2,10 @@ use native.Mathlib.Omega.{arith}
 use lib.Seq.{set-out}
 use mathlib.Core.Path.{sym}
 use borrow.Author.Needs.{needs}
-use Rattle.himib.proofs.access.with_bits.Statement.{statement}
-use Rattle.himib.proofs.access.with_bits.Tie as tie
-use Rattle.himib.proofs.access.with_bits.Reads as reads
-use Rattle.himib.proofs.access.with_bits.Lts as lts
+use Rattle.changes.proofs.with_bits.Statement.{statement}
+use Rattle.changes.proofs.with_bits.Tie as tie
+use Rattle.changes.proofs.with_bits.Reads as reads
+use Rattle.changes.proofs.with_bits.Lts as lts
 
 array-write-out : tie.Need-array-write-out
 array-write-out c = search needs

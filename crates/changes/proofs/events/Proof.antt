@@ -1,12 +1,12 @@
-use Rattle.himib.specs.Changes.{eventsOf}
+use Rattle.changes.specs.Changes.{eventsOf}
 use borrow.Author.Needs.{needs}
-use Rattle.himib.proofs.core.events.Statement.{statement}
-use Rattle.himib.proofs.core.events.Tie as tie
-use Rattle.himib.proofs.core.events.Reads as reads
-use Rattle.himib.proofs.core.events.Lts as lts
-use Rattle.himib.proofs.core.aui_bit.Reads as aui-bit-reads
-use Rattle.himib.proofs.core.bit_7.Reads as bit-7-reads
-use Rattle.himib.proofs.core.tp_byte.Reads as tp-byte-reads
+use Rattle.changes.proofs.events.Statement.{statement}
+use Rattle.changes.proofs.events.Tie as tie
+use Rattle.changes.proofs.events.Reads as reads
+use Rattle.changes.proofs.events.Lts as lts
+use Rattle.changes.proofs.aui_bit.Reads as aui-bit-reads
+use Rattle.changes.proofs.bit_7.Reads as bit-7-reads
+use Rattle.changes.proofs.tp_byte.Reads as tp-byte-reads
 
 tp-byte-requires : tie.Need-tp-byte-requires
 tp-byte-requires c κs = search needs

@@ -1,4 +1,4 @@
-use Rattle.himib.specs.Changes.{noted}
+use Rattle.changes.specs.Changes.{noted}
 use Rattle.ports.proofs.Each.{done-none, done-more, done-all}
 use Rattle.ports.specs.Each.{done}
 use lib.Bits.{bitOr}
@@ -7,10 +7,10 @@ use borrow.Author.Needs.{needs}
 use native.Mathlib.Omega.{arith}
 use mathlib.Core.Path.{_≡_, _∙_, refl}
 use Prim.Native.Nat.{_≤_, _-_}
-use Rattle.himib.proofs.core.note.Statement.{statement}
-use Rattle.himib.proofs.core.note.Tie as tie
-use Rattle.himib.proofs.core.note.Reads as reads
-use Rattle.himib.proofs.core.note.Lts as lts
+use Rattle.changes.proofs.note.Statement.{statement}
+use Rattle.changes.proofs.note.Tie as tie
+use Rattle.changes.proofs.note.Reads as reads
+use Rattle.changes.proofs.note.Lts as lts
 
 abbrev Inv-loop : tie.InvT-loop
 Inv-loop events out₀ i₀ out i = (i ≤ 8) × (out ≡ done (λ r n. bitOr n (getD events r 0)) i out₀)

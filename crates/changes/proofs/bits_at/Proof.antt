@@ -2,10 +2,10 @@ use native.Mathlib.Omega.{arith}
 use lib.ListN.{List·getD-eq-default}
 use mathlib.Core.Path.{sym}
 use borrow.Author.Needs.{needs}
-use Rattle.himib.proofs.access.bits_at.Statement.{statement}
-use Rattle.himib.proofs.access.bits_at.Tie as tie
-use Rattle.himib.proofs.access.bits_at.Reads as reads
-use Rattle.himib.proofs.access.bits_at.Lts as lts
+use Rattle.changes.proofs.bits_at.Statement.{statement}
+use Rattle.changes.proofs.bits_at.Tie as tie
+use Rattle.changes.proofs.bits_at.Reads as reads
+use Rattle.changes.proofs.bits_at.Lts as lts
 
 array-read-result : tie.Need-array-read-result
 array-read-result c = search needs

@@ -1,0 +1,2 @@
+-- The change bits and their enables.
+pub mod Changes
