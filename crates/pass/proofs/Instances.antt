@@ -7,8 +7,8 @@
 --   five-bytes, six-bytes, then-a-frame == an address written, and replaced by a frame
 --   selected-at, brink-six, row-at, broken-at == P and R, and the bytes of D writes in a row
 use Prim.Native.Nat.{ℕ, _*_, _%_, _^_, _≤_, _<_}
-use mathlib.Core.Path.{_≡_, refl}
-use mathlib.Core.Bool.{true, false}
+use mathlib.Core.Path.{_≡_, refl, sym, subst}
+use mathlib.Core.Bool.{Bool, true, false}
 use mathlib.Core.List.{List, [], _∷_, _++_, map}
 use lib.Dec.{lit<, lit≤}
 use lib.ListN.{length, getD, take, drop, replicate, getD-replicate}
@@ -21,7 +21,7 @@ use Rattle.pass.specs.Runs.{Point, Happening, happening, history, run, s
 use Rattle.pass.specs.Pass.{credit, collisionCredit, octetCredit, sumOf, sumOver, writtenByte, completes, addressGiven, lastGiven}
 use Rattle.pass.specs.HostPast.{pageBy, registerBy, rowAfter, inARow}
 use Rattle.pass.specs.Examples.{burstRecord, pulseRecord, cWriteRecord, dWriteRecord, dReadRecord, resetRecord}
-use Rattle.pass.proofs.Computing.{step-computes}
+use Rattle.pass.proofs.Computing.{step-computes, found, foundAfter, found-once, found-after-once}
 
 -- THE COUNTERS
 
@@ -62,26 +62,30 @@ abbrev registers : List ℕ
 registers = 0 ∷ 1 ∷ 2 ∷ 3 ∷ 4 ∷ 5 ∷ 6 ∷ 7 ∷ 8 ∷ 9 ∷ 10 ∷ 11 ∷ 12 ∷ []
 
 -- a port's thirteen counters, and the sums of their credits
-abbrev countersAt : ℕ → List ℕ
-countersAt i = map (λ r. counterAt i r (run brink mixed)) registers
+abbrev countedOf : ℕ → Point → List Happening → List (List ℕ)
+countedOf i p hs = map (λ r. counterAt i r p) registers ∷ map (λ r. sumOf (credit i r) hs) registers ∷ []
 
-abbrev creditsAt : ℕ → List ℕ
-creditsAt i = map (λ r. sumOf (credit i r) (history brink mixed)) registers
-
-aui-counted : (countersAt aui ≡ 1 ∷ 127 ∷ last ∷ last ∷ last ∷ last ∷ last ∷ 0 ∷ 0 ∷ last ∷ last ∷ last ∷ 0 ∷ [])
-    × (creditsAt aui ≡ 2 ∷ 128 ∷ 0 ∷ 0 ∷ 0 ∷ 0 ∷ 0 ∷ 1 ∷ 1 ∷ 0 ∷ 0 ∷ 0 ∷ 1 ∷ [])
+aui-counted : found (countedOf aui) brink mixed
+    ≡ (1 ∷ 127 ∷ last ∷ last ∷ last ∷ last ∷ last ∷ 0 ∷ 0 ∷ last ∷ last ∷ last ∷ 0 ∷ [])
+    ∷ (2 ∷ 128 ∷ 0 ∷ 0 ∷ 0 ∷ 0 ∷ 0 ∷ 1 ∷ 1 ∷ 0 ∷ 0 ∷ 0 ∷ 1 ∷ [])
+    ∷ []
 unfolding step-computes happening run history credit sumOf ifBurst
-aui-counted = (refl, refl)
+aui-counted = found-once (countedOf aui) brink mixed refl
 
-tp0-counted : (countersAt 0 ≡ 0 ∷ 1517 ∷ last ∷ last ∷ last ∷ last ∷ 0 ∷ 0 ∷ 0 ∷ last ∷ last ∷ last ∷ 0 ∷ [])
-    × (creditsAt 0 ≡ 1 ∷ 1518 ∷ 0 ∷ 0 ∷ 0 ∷ 0 ∷ 1 ∷ 1 ∷ 1 ∷ 0 ∷ 0 ∷ 0 ∷ 1 ∷ [])
+tp0-counted : found (countedOf 0) brink mixed
+    ≡ (0 ∷ 1517 ∷ last ∷ last ∷ last ∷ last ∷ 0 ∷ 0 ∷ 0 ∷ last ∷ last ∷ last ∷ 0 ∷ [])
+    ∷ (1 ∷ 1518 ∷ 0 ∷ 0 ∷ 0 ∷ 0 ∷ 1 ∷ 1 ∷ 1 ∷ 0 ∷ 0 ∷ 0 ∷ 1 ∷ [])
+    ∷ []
 unfolding step-computes happening run history credit sumOf ifBurst
-tp0-counted = (refl, refl)
+tp0-counted = found-once (countedOf 0) brink mixed refl
 
-totals-counted : (transmitCollisions (run brink mixed) ≡ 0) × (sumOf collisionCredit (history brink mixed) ≡ 1)
-    × (totalOctets (run brink mixed) ≡ 1645) × (sumOf octetCredit (history brink mixed) ≡ 1646)
+-- Transmit Collisions and its credits, Total Octets and its credits
+abbrev totalsOf : Point → List Happening → List ℕ
+totalsOf p hs = transmitCollisions p ∷ sumOf collisionCredit hs ∷ totalOctets p ∷ sumOf octetCredit hs ∷ []
+
+totals-counted : found totalsOf brink mixed ≡ 0 ∷ 1 ∷ 1645 ∷ 1646 ∷ []
 unfolding step-computes happening run history collisionCredit octetCredit sumOf ifBurst
-totals-counted = (refl, refl, refl, refl)
+totals-counted = found-once totalsOf brink mixed refl
 
 -- TWO READINGS
 
@@ -92,91 +96,113 @@ earlier = run brink (take 4 mixed)
 abbrev rest : List (List ℕ)
 rest = drop 4 mixed
 
-abbrev moves : ℕ → ℕ → ℕ
-moves i r = differenceOf (counterAt i r (run earlier rest)) (counterAt i r earlier)
+-- what a counter differs by, between the points q and p
+abbrev moves : ℕ → ℕ → Point → Point → ℕ
+moves i r q p = differenceOf (counterAt i r p) (counterAt i r q)
 
-read-at : (counterAt aui 0 earlier ≡ last) × (counterAt aui 0 (run earlier rest) ≡ 1) × (moves aui 0 ≡ 2) × (sumOf (credit aui 0) (history earlier rest) ≡ 2)
-    × (counterAt aui 1 (run earlier rest) ≡ 127) × (moves aui 1 ≡ 128) × (sumOf (credit aui 1) (history earlier rest) ≡ 128)
+-- AUI's Readable Frames and Readable Octets: the readings, the difference, and the credits between them
+abbrev readingsOf : Point → Point → List Happening → List ℕ
+readingsOf q p hs =
+    counterAt aui 0 q ∷ counterAt aui 0 p ∷ moves aui 0 q p ∷ sumOf (credit aui 0) hs
+    ∷ counterAt aui 1 p ∷ moves aui 1 q p ∷ sumOf (credit aui 1) hs
+    ∷ []
+
+read-at : found (readingsOf earlier) earlier rest ≡ last ∷ 1 ∷ 2 ∷ 2 ∷ 127 ∷ 128 ∷ 128 ∷ []
 unfolding step-computes happening run history credit sumOf ifBurst
-read-at = (refl, refl, refl, refl, refl, refl, refl)
+read-at = found-once (readingsOf earlier) earlier rest refl
 
-totals-at : (differenceOf (transmitCollisions (run earlier rest)) (transmitCollisions earlier) ≡ 1) × (sumOf collisionCredit (history earlier rest) ≡ 1)
-    × (differenceOf (totalOctets (run earlier rest)) (totalOctets earlier) ≡ 1646) × (moves 0 1 ≡ 1518) × (sumOver 9 (λ i. moves i 1) % 2 ^ 32 ≡ 1646)
+-- Transmit Collisions and its credits; Total Octets, TP0's octets, and the nine ports' octets together
+abbrev totalsMoved : Point → Point → List Happening → List ℕ
+totalsMoved q p hs =
+    differenceOf (transmitCollisions p) (transmitCollisions q) ∷ sumOf collisionCredit hs
+    ∷ differenceOf (totalOctets p) (totalOctets q) ∷ moves 0 1 q p ∷ sumOver 9 (λ i. moves i 1 q p) % 2 ^ 32
+    ∷ []
+
+totals-at : found (totalsMoved earlier) earlier rest ≡ 1 ∷ 1 ∷ 1646 ∷ 1518 ∷ 1646 ∷ []
 unfolding step-computes happening run history collisionCredit sumOf ifBurst sumOver
-totals-at = (refl, refl, refl, refl, refl)
+totals-at = found-once (totalsMoved earlier) earlier rest refl
 
-bound-at : (sumOf (credit aui 0) (history earlier rest) ≤ 2829359)
-    × (64 * sumOf (credit aui 0) (history earlier rest) ≤ moves aui 1) × (moves aui 1 ≤ 1518 * sumOf (credit aui 0) (history earlier rest))
-    × (checkOf (moves aui 0) (moves aui 1) ≡ Yes)
-unfolding step-computes happening run history credit sumOf ifBurst checkOf
-bound-at = (lit≤ tt, lit≤ tt, lit≤ tt, refl)
+-- frames credited, and what the readings of frames and octets differ by
+abbrev Bounded : ℕ → ℕ → ℕ → Type 0
+Bounded credited frames octets =
+    (credited ≤ 2829359) × (64 * credited ≤ octets) × (octets ≤ 1518 * credited) × (checkOf frames octets ≡ Yes)
+
+bounded : Bounded 2 2 128
+unfolding checkOf
+bounded = (lit≤ tt, lit≤ tt, lit≤ tt, refl)
+
+bound-at : Bounded (sumOf (credit aui 0) (history earlier rest)) (moves aui 0 earlier (run earlier rest)) (moves aui 1 earlier (run earlier rest))
+bound-at = subst (λ (l : List ℕ). Bounded (getD l 3 0) (getD l 2 0) (getD l 5 0)) (sym read-at) bounded
 
 -- AN ADDRESS
 
--- P 31 and R 14 are selected, AUI's address; six bytes are written, and a seventh; a frame of 64 octets comes, and a runt of 63 from elsewhere
-abbrev written : List (List ℕ)
-written =
-    cWriteRecord 0x1f ∷ cWriteRecord 0xee
-    ∷ dWriteRecord 1 ∷ dWriteRecord 2 ∷ dWriteRecord 3 ∷ dWriteRecord 4 ∷ dWriteRecord 5 ∷ dWriteRecord 6
+-- P 31 and R 14 are selected, AUI's address, and five bytes are written; a sixth, and a seventh; a frame of 64 octets comes, and a runt of 63 from elsewhere
+abbrev five : List (List ℕ)
+five = cWriteRecord 0x1f ∷ cWriteRecord 0xee ∷ dWriteRecord 1 ∷ dWriteRecord 2 ∷ dWriteRecord 3 ∷ dWriteRecord 4 ∷ dWriteRecord 5 ∷ []
+
+abbrev more : List (List ℕ)
+more =
+    dWriteRecord 6
     ∷ dWriteRecord 7
     ∷ burstRecord 256 0 1000 64 0 0 0 sender
     ∷ burstRecord 256 0 1000 63 0 0 0 (6 ∷ 5 ∷ 4 ∷ 3 ∷ 2 ∷ 1 ∷ [])
     ∷ []
 
--- after the first n of them: where the address stands, and what the past says
-abbrev now : ℕ → List ℕ
-now n = addressAt aui (run brink (take n written))
+abbrev sixBytes : List ℕ
+sixBytes = 1 ∷ 2 ∷ 3 ∷ 4 ∷ 5 ∷ 6 ∷ []
 
-abbrev past : ℕ → List ℕ
-past n = lastGiven aui (addressAt aui brink) (history brink (take n written))
+-- where the address stands, and what the past says
+abbrev addressOf : Point → List Happening → List (List ℕ)
+addressOf p hs = addressAt aui p ∷ lastGiven aui (addressAt aui brink) hs ∷ []
 
-five-bytes : (now 7 ≡ replicate 6 0) × (past 7 ≡ replicate 6 0)
+five-bytes : found addressOf brink five ≡ replicate 6 0 ∷ replicate 6 0 ∷ []
 unfolding step-computes happening run history kindOf accepted credit ifBurst writtenByte addressGiven lastGiven
-five-bytes = (refl, refl)
+five-bytes = found-once addressOf brink five refl
 
-six-bytes : (now 9 ≡ 1 ∷ 2 ∷ 3 ∷ 4 ∷ 5 ∷ 6 ∷ []) × (past 9 ≡ 1 ∷ 2 ∷ 3 ∷ 4 ∷ 5 ∷ 6 ∷ [])
+six-bytes : found addressOf brink (five ++ take 2 more) ≡ sixBytes ∷ sixBytes ∷ []
 unfolding step-computes happening run history kindOf accepted credit ifBurst writtenByte addressGiven lastGiven
-six-bytes = (refl, refl)
+six-bytes = found-once addressOf brink (five ++ take 2 more) refl
 
-then-a-frame : (now 10 ≡ sender) × (past 10 ≡ sender) × (now 11 ≡ sender) × (past 11 ≡ sender)
+-- the frame, and the runt after it
+abbrev bursts : List (List (List ℕ))
+bursts = take 1 (drop 2 more) ∷ drop 2 more ∷ []
+
+then-a-frame : foundAfter addressOf brink (five ++ take 2 more) bursts ≡ (sender ∷ sender ∷ []) ∷ (sender ∷ sender ∷ []) ∷ []
 unfolding step-computes happening run history kindOf accepted credit ifBurst writtenByte addressGiven lastGiven
-then-a-frame = (refl, refl, refl, refl)
+then-a-frame = found-after-once addressOf brink (five ++ take 2 more) bursts refl
 
 -- THE HOST'S RECORD
 
 abbrev deselected : List (List ℕ)
 deselected = cWriteRecord 0x1f ∷ cWriteRecord 0xee ∷ resetRecord ∷ cWriteRecord 0xe3 ∷ []
 
--- P and R after the first n of them, in the record and by the past
-abbrev chosen : ℕ → List ℕ
-chosen n = run brink (take n deselected) .host .page ∷ run brink (take n deselected) .host .register ∷ []
+-- P and R, in the record and by the past
+abbrev chosenOf : Point → List Happening → List ℕ
+chosenOf p hs = p .host .page ∷ p .host .register ∷ pageBy 0 hs ∷ registerBy 0 hs ∷ []
 
-abbrev chosenBy : ℕ → List ℕ
-chosenBy n = pageBy 0 (history brink (take n deselected)) ∷ registerBy 0 (history brink (take n deselected)) ∷ []
+abbrev none-or-all : List (List (List ℕ))
+none-or-all = [] ∷ drop 2 deselected ∷ []
 
-selected-at : (chosen 2 ≡ 31 ∷ 14 ∷ []) × (chosenBy 2 ≡ 31 ∷ 14 ∷ []) × (chosen 4 ≡ 0 ∷ 3 ∷ []) × (chosenBy 4 ≡ 0 ∷ 3 ∷ [])
+-- after the first two of them, and after all
+selected-at : foundAfter chosenOf brink (take 2 deselected) none-or-all ≡ (31 ∷ 14 ∷ 31 ∷ 14 ∷ []) ∷ (0 ∷ 3 ∷ 0 ∷ 3 ∷ []) ∷ []
 unfolding step-computes happening run history kindOf writtenByte pageBy registerBy
-selected-at = (refl, refl, refl, refl)
+selected-at = found-after-once chosenOf brink (take 2 deselected) none-or-all refl
 
 brink-six : (i : ℕ) → i < 9 → length (getD (replicate 9 full) i noAttributes .address) ≡ 6
 brink-six i l = rw (getD-replicate 9 i full noAttributes l)
 
--- after n records of rs, one record more
-abbrev next : List (List ℕ) → ℕ → Happening
-next rs n = happening (run brink (take n rs)) (getD rs n [])
+-- one record more: whether it completes AUI's address, and the bytes in a row with it
+abbrev metBy : List ℕ → Point → List Happening → Bool × List ℕ
+metBy r p hs = let h : Happening = happening p r in (completes aui h, rowAfter (inARow [] hs) h)
 
-abbrev rowBy : List (List ℕ) → ℕ → List ℕ
-rowBy rs n = rowAfter (inARow [] (history brink (take n rs))) (next rs n)
-
-row-at : (completes aui (next written 7) ≡ true) × (rowBy written 7 ≡ 1 ∷ 2 ∷ 3 ∷ 4 ∷ 5 ∷ 6 ∷ []) × (next written 7 .after .host .bytes ≡ 1 ∷ 2 ∷ 3 ∷ 4 ∷ 5 ∷ 6 ∷ [])
-    × (completes aui (next written 8) ≡ false) × (rowBy written 8 ≡ 1 ∷ 2 ∷ 3 ∷ 4 ∷ 5 ∷ 6 ∷ 7 ∷ [])
+-- the sixth byte, which the copy in the record ends with, and the seventh
+row-at : (found (metBy (dWriteRecord 6)) brink five ≡ (true, sixBytes))
+    × (happening (run brink five) (dWriteRecord 6) .after .host .bytes ≡ sixBytes)
+    × (found (metBy (dWriteRecord 7)) brink (five ++ take 1 more) ≡ (false, sixBytes ++ (7 ∷ [])))
 unfolding step-computes happening run history kindOf accepted writtenByte inARow
-row-at = (refl, refl, refl, refl, refl)
+row-at = (found-once (metBy (dWriteRecord 6)) brink five refl, refl {a = sixBytes}, found-once (metBy (dWriteRecord 7)) brink (five ++ take 1 more) refl)
 
 -- a D read after the fifth byte, and then the sixth
-abbrev broken : List (List ℕ)
-broken = take 7 written ++ dReadRecord ∷ dWriteRecord 6 ∷ []
-
-broken-at : (completes aui (next broken 8) ≡ false) × (rowBy broken 8 ≡ 6 ∷ [])
+broken-at : found (metBy (dWriteRecord 6)) brink (five ++ (dReadRecord ∷ [])) ≡ (false, 6 ∷ [])
 unfolding step-computes happening run history kindOf accepted writtenByte inARow
-broken-at = (refl, refl)
+broken-at = found-once (metBy (dWriteRecord 6)) brink (five ++ (dReadRecord ∷ [])) refl

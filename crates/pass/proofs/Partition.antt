@@ -34,22 +34,34 @@ use Rattle.himib.specs.Bursts.{wired, burstCore, burstOn}
 use Rattle.himib.specs.Chip.{moved}
 use Rattle.himib.specs.Access.{cReadOf, dReadOf, dWriteOf, obeyed}
 use Rattle.himib.specs.Step.{actOn, taken, stepOf}
-use Rattle.pass.specs.Runs.{Point, happening, history, run, start, kindOf, ifBurst, repeaterAt, partitionedAt}
+use Rattle.pass.specs.Runs.{Point, Happening, happening, history, run, start, kindOf, ifBurst, repeaterAt, partitionedAt}
 use Rattle.pass.specs.Pass.{eventAt, PartitionByPast}
 use Rattle.pass.specs.Examples.{noAddress, burstRecord, pulseRecord, cWriteRecord, dWriteRecord, resetRecord, up}
-use Rattle.pass.proofs.Computing.{step-computes}
+use Rattle.pass.proofs.Computing.{step-computes, found, foundAfter, found-once, found-after-once}
 use Rattle.pass.proofs.Accesses.{after-write, after-read}
 use Rattle.pass.proofs.Enabled.{enabledIn, enabled-at, enabled-bursted, enabled-ticked, enabled-pulsed, enabled-got, enabled-set}
 
 -- AT THE BOUNDARIES
 
--- From power-up the records leave port i partitioned or not, and this is whether its past since the last clearing event struck it.
-abbrev Both : List (List ℕ) → ℕ → Bool → Type 0
-Both rs i b = (partitionedAt (run up rs) i ≡ b) × (struck (since (map (eventAt i) (history up rs))) ≡ b)
+-- port i: partitioned or not, and whether its past since the last clearing event struck it
+abbrev told : ℕ → Point → List Happening → List Bool
+told i p hs = partitionedAt p i ∷ struck (since (map (eventAt i) hs)) ∷ []
 
--- n bursts on which TP0 and TP1, whose links pass, collide
+abbrev yes : List Bool
+yes = true ∷ true ∷ []
+
+abbrev no : List Bool
+no = false ∷ false ∷ []
+
+-- a burst on which TP0 and TP1 collide; n of them, where the links pass
+abbrev collidedBurst : List ℕ
+collidedBurst = burstRecord 0b11 0 600 0 0 100 300 noAddress
+
 abbrev crowded : ℕ → List (List ℕ)
-crowded n = replicate 4 (pulseRecord 0b11) ++ replicate n (burstRecord 0b11 0 600 0 0 100 300 noAddress)
+crowded n = replicate 4 (pulseRecord 0b11) ++ replicate n collidedBurst
+
+abbrev crowd : List (List ℕ)
+crowd = collidedBurst ∷ []
 
 -- n bursts of AUI alone with its collision signal, each for x bit times
 abbrev signalled : ℕ → ℕ → List (List ℕ)
@@ -63,19 +75,30 @@ alone d = burstRecord 0b01 0 d 0 0 0 0 noAddress ∷ []
 abbrev disabling : List (List ℕ)
 disabling = cWriteRecord 0b11111110 ∷ dWriteRecord 0b00100000 ∷ []
 
-at-boundaries : Both (crowded 31) 0 false
-    × Both (crowded 32) 0 true
-    × Both (signalled 31 300) 8 false
-    × Both (signalled 32 300) 8 true
-    × Both (signalled 1 1024) 8 false
-    × Both (signalled 1 1025) 8 true
-    × Both (crowded 32 ++ alone 512) 0 true
-    × Both (crowded 32 ++ alone 513) 0 false
-    × Both (crowded 32 ++ disabling) 0 false
-    × Both (crowded 32 ++ disabling) 1 true
-    × Both (crowded 32 ++ (resetRecord ∷ [])) 1 false
+-- TP0 and TP1
+abbrev both : Point → List Happening → List (List Bool)
+both p hs = told 0 p hs ∷ told 1 p hs ∷ []
+
+-- after 31 such bursts: nothing; the 32nd; and then TP0 alone for 512 and for 513 bit times, the disabling of TP0, and a reset
+abbrev endings : List (List (List ℕ))
+endings = [] ∷ crowd ∷ (crowd ++ alone 512) ∷ (crowd ++ alone 513) ∷ (crowd ++ disabling) ∷ (crowd ++ (resetRecord ∷ [])) ∷ []
+
+-- after 31 collisions of AUI: nothing, and a 32nd
+abbrev auiEndings : List (List (List ℕ))
+auiEndings = [] ∷ signalled 1 300 ∷ []
+
+at-boundaries : (foundAfter both up (crowded 31) endings
+    ≡ (no ∷ no ∷ []) ∷ (yes ∷ yes ∷ []) ∷ (yes ∷ yes ∷ []) ∷ (no ∷ yes ∷ []) ∷ (no ∷ yes ∷ []) ∷ (no ∷ no ∷ []) ∷ [])
+    × (foundAfter (told 8) up (signalled 31 300) auiEndings ≡ no ∷ yes ∷ [])
+    × (found (told 8) up (signalled 1 1024) ≡ no)
+    × (found (told 8) up (signalled 1 1025) ≡ yes)
 unfolding step-computes run history happening eventAt eventOf followedEvent burstEvent kindOf ifBurst
-at-boundaries = ((refl, refl), (refl, refl), (refl, refl), (refl, refl), (refl, refl), (refl, refl), (refl, refl), (refl, refl), (refl, refl), (refl, refl), (refl, refl))
+at-boundaries = (
+  found-after-once both up (crowded 31) endings refl,
+  found-after-once (told 8) up (signalled 31 300) auiEndings refl,
+  found-once (told 8) up (signalled 1 1024) refl,
+  found-once (told 8) up (signalled 1 1025) refl,
+)
 
 -- the two ways of being struck
 struck-by-32 : Struck (since (map (eventAt 0) (history up (crowded 32))))

@@ -13,6 +13,9 @@ use Rattle.record.specs.declared.Asked.the-variants as ask
 use Rattle.record.specs.Refusals.{recordOf}
 use Rattle.repeater.specs.declared.Repeater.{Repeater}
 use Rattle.burst.specs.declared.Word.the-variants.{Rep, Jam}
+use Rattle.port.specs.Port.{withLink}
+use Rattle.port.specs.Reset.{tpUp, auiUp}
+use Rattle.management.specs.Status.{clearStatus}
 use Rattle.host.specs.declared.Host.{Host}
 use Rattle.host.specs.declared.Register.{Register}
 use Rattle.host.specs.declared.Register.the-variants as reg
@@ -21,6 +24,7 @@ use Rattle.host.specs.Sequence.{powerUp}
 use Rattle.answer.specs.declared.Answer.{Answer}
 use Rattle.answer.specs.declared.Answer.the-variants.{Sent}
 use Rattle.attributes.specs.declared.Attributes.{Attributes}
+use Rattle.attributes.specs.Credits.{noAttributes}
 use Rattle.himib.specs.declared.core.Core.{Core}
 use Rattle.himib.specs.declared.step.Chip.{Chip}
 use Rattle.himib.specs.declared.step.Acted.{Acted}
@@ -28,10 +32,36 @@ use Rattle.himib.specs.Chip.{moved}
 use Rattle.himib.specs.Bursts.{burstCore, burstOn}
 use Rattle.himib.specs.Access.{selectedBy, turnedAway, cReadOf, dReadOf, readOf, seen}
 use Rattle.himib.specs.Step.{actOn, afterAct, readdressed, taken, stepOf}
-use Rattle.pass.specs.Runs.{Point, happening, history, run, kindOf}
+use Rattle.pass.specs.Runs.{Point, Happening, happening, history, run, kindOf}
 use Rattle.pass.specs.Pass.{Alike, PollingIsHarmless, kindIn, polls, withoutPolls, noDWrite, burstAnswers}
 use Rattle.pass.specs.Examples.{burstRecord, noAddress, pulseRecord, tickRecord, cWriteRecord, cReadRecord, dReadRecord, resetRecord, up}
-use Rattle.pass.proofs.Computing.{step-computes, somebody}
+use Rattle.pass.proofs.Computing.{step-computes, found, found-once, somebody}
+
+-- THE PART
+
+-- that part of a chip
+record Part : Type 0 where
+  repeater : Repeater
+  attributes : List Attributes
+  collisions : ℕ
+  octets : ℕ
+
+abbrev part : Chip → Part
+part s =
+    record { repeater = s .core .repeater; attributes = s .attributes; collisions = s .core .«transmit_collisions»; octets = s .core .«total_octets» }
+
+-- at a point of a run
+abbrev partAt : Point → Part
+partAt p = part (p .chip)
+
+alike : (p q : Point) → partAt p ≡ partAt q → Alike p q
+alike p q e =
+    record {
+      ports = ap (λ (k : Part). k .repeater) e;
+      attributes = ap (λ (k : Part). k .attributes) e;
+      collisions = ap (λ (k : Part). k .collisions) e;
+      octets = ap (λ (k : Part). k .octets) e;
+    }
 
 -- INSTANCE
 
@@ -62,34 +92,56 @@ differ-in-polls : (noDWrite polled ≡ true) × (noDWrite alone ≡ true) × (wi
 unfolding step-computes kindOf noDWrite withoutPolls
 differ-in-polls = (refl, refl, refl)
 
+-- where both leave that part: TP0 sent three frames, each from another address than the one before, and collided with TP1 once; the tick shows at each link that was
+-- not used after it
+abbrev part-after : Part
+part-after = record {
+  repeater =
+      record {
+        ports = withLink tpUp true 0 0 ∷ withLink tpUp true 1 0 ∷ replicate 6 (withLink tpUp false 1 0) ++ (auiUp ∷ []);
+        «alternate_aui» = false;
+        «alternate_tp» = false;
+        status = clearStatus;
+      };
+  attributes =
+      record { counters = 3 ∷ 192 ∷ 0 ∷ 0 ∷ 0 ∷ 0 ∷ 0 ∷ 1 ∷ 0 ∷ 0 ∷ 0 ∷ 0 ∷ 3 ∷ []; address = somebody }
+      ∷ record { counters = 0 ∷ 0 ∷ 0 ∷ 0 ∷ 0 ∷ 0 ∷ 0 ∷ 1 ∷ 0 ∷ 0 ∷ 0 ∷ 0 ∷ 0 ∷ []; address = noAddress }
+      ∷ replicate 7 noAttributes;
+  collisions = 1;
+  octets = 192;
+}
+
 abbrev four-answers : List Answer
 four-answers = Sent Rep 0x102 ∷ Sent Rep 0x102 ∷ Sent Jam 0x103 ∷ Sent Rep 0x102 ∷ []
 
+-- the part, the answers of the bursts, and TP0's bit of P 1 R 6
+record Seen : Type 0 where
+  left : Part
+  said : List Answer
+  bit : ℕ
+
+abbrev seenOf : Point → List Happening → Seen
+seenOf p hs = record { left = partAt p; said = burstAnswers hs; bit = getD (p .chip .core .changes) 6 0 }
+
+polled-seen : found seenOf up polled ≡ record { left = part-after; said = four-answers; bit = 0 }
+unfolding step-computes happening history run kindOf burstAnswers
+polled-seen = found-once seenOf up polled refl
+
+alone-seen : found seenOf up alone ≡ record { left = part-after; said = four-answers; bit = 1 }
+unfolding step-computes happening history run kindOf burstAnswers
+alone-seen = found-once seenOf up alone refl
+
 same-answers : (burstAnswers (history up polled) ≡ four-answers) × (burstAnswers (history up alone) ≡ four-answers)
-unfolding step-computes happening history kindOf burstAnswers
-same-answers = (refl, refl)
+same-answers = (ap (λ (s : Seen). s .said) polled-seen, ap (λ (s : Seen). s .said) alone-seen)
 
 same-part : Alike (run up polled) (run up alone)
-unfolding step-computes happening run
-same-part = record { ports = refl; attributes = refl; collisions = refl; octets = refl }
+same-part = alike (run up polled) (run up alone) (ap (λ (s : Seen). s .left) polled-seen ∙ sym (ap (λ (s : Seen). s .left) alone-seen))
 
 -- other things on the chip are not the same: the read cleared the change bit
 other-bits : (getD (run up polled .chip .core .changes) 6 0 ≡ 0) × (getD (run up alone .chip .core .changes) 6 0 ≡ 1)
-unfolding step-computes happening run
-other-bits = (refl, refl)
+other-bits = (ap (λ (s : Seen). s .bit) polled-seen, ap (λ (s : Seen). s .bit) alone-seen)
 
--- THE PART
-
--- that part of a chip
-record Part : Type 0 where
-  repeater : Repeater
-  attributes : List Attributes
-  collisions : ℕ
-  octets : ℕ
-
-abbrev part : Chip → Part
-part s =
-    record { repeater = s .core .repeater; attributes = s .attributes; collisions = s .core .«transmit_collisions»; octets = s .core .«total_octets» }
+-- WHAT A RECORD DOES TO IT
 
 -- a chip with that part
 abbrev chipWith : Part → Chip
@@ -190,9 +242,6 @@ no-burst ask.ReadD e = refl
 no-burst ask.Reset e = refl
 
 -- the same at a point of a run
-abbrev partAt : Point → Part
-partAt p = part (p .chip)
-
 module _ (p : Point) (r : List ℕ) where
   quiet : polls r ≡ true → partAt (happening p r .after) ≡ partAt p
   unfolding happening stepOf
@@ -242,15 +291,6 @@ harmless (r ∷ rs) p q e n = go (polls r) refl (harmless rs)
     go false t more =
         let k = more (happening p r .after) (happening q r .after) (moves p r q e t d) m in
         (answers (eqb (kindIn r) 1) refl _ _ (k .0), k .1)
-
-alike : (p q : Point) → partAt p ≡ partAt q → Alike p q
-alike p q e =
-    record {
-      ports = ap (λ (k : Part). k .repeater) e;
-      attributes = ap (λ (k : Part). k .attributes) e;
-      collisions = ap (λ (k : Part). k .collisions) e;
-      octets = ap (λ (k : Part). k .octets) e;
-    }
 
 pub polling-is-harmless : PollingIsHarmless
 polling-is-harmless p rs qs n m e =

@@ -7,7 +7,7 @@ use mathlib.Core.Path.{_≡_, refl, sym, ap, _∙_}
 use mathlib.Core.Bool.{Bool, true, false, cond, not, _&&_, _||_, true≢false}
 use mathlib.Core.List.{List, [], _∷_, _++_}
 use native.Mathlib.Omega.{arith}
-use native.Mathlib.Nat.{add-zero}
+use native.Mathlib.Nat.{add-zero, le-of-eq}
 use native.Mathlib.Numerals.{one-add}
 use borrow.Author.Tests.{not-true, ltb-true}
 use lib.Dec.{eqb, ltb}
@@ -24,7 +24,7 @@ use Rattle.host.specs.declared.Register.the-variants as reg
 use Rattle.host.specs.Map.{table, rowOf, sizeOf, readableReg}
 use Rattle.host.specs.Bytes.{leastFirst, spreadOf, spelt}
 use Rattle.host.specs.Stands.{proper}
-use Rattle.host.specs.Sequence.{withSequence, readByte, nextPlace}
+use Rattle.host.specs.Sequence.{withSequence, placeFor, readByte, nextPlace}
 use Rattle.host.proofs.Listed.{proper-register}
 use Rattle.host.proofs.Places.{next-on}
 use Rattle.host.proofs.Copied.{read-first, read-on}
@@ -35,10 +35,10 @@ use Rattle.himib.specs.declared.step.Chip.{Chip}
 use Rattle.himib.specs.declared.step.Acted.{Acted}
 use Rattle.himib.specs.Access.{selectedBy, valueOf, turnedAway, cReadOf, dReadOf, readOf}
 use Rattle.himib.specs.Step.{actOn, taken, stepOf}
-use Rattle.pass.specs.Runs.{Point, happening, history, run, start, Given, kindOf, accepted, selects, writes, reads, resets, counterAt, transmitCollisions, totalOctets}
+use Rattle.pass.specs.Runs.{Point, Happening, happening, history, run, start, Given, kindOf, accepted, selects, writes, reads, resets, counterAt, transmitCollisions, totalOctets}
 use Rattle.pass.specs.Pass.{bytesRead, undisturbed, registerOf, bytesOf, Sequence, SequenceIsOneValue, numberIn, FourBytes}
 use Rattle.pass.specs.Examples.{noAddress, cWriteRecord, dReadRecord}
-use Rattle.pass.proofs.Computing.{step-computes, nineAt, somebody, auiFrame, selecting, reading}
+use Rattle.pass.proofs.Computing.{step-computes, found, found-once, nineAt, somebody, auiFrame, selecting, reading}
 use Rattle.pass.proofs.Credited.{fit-run}
 use Rattle.pass.proofs.TurnedAway.{host-left}
 
@@ -48,35 +48,86 @@ use Rattle.pass.proofs.TurnedAway.{host-left}
 abbrev powered : Point
 powered = start (nineAt 0x040302ff) 0 0
 
-a-sequence : Sequence (run powered selecting) dReadRecord reading
+abbrev begun : Point
+begun = run powered selecting
+
+-- where the sequence begins: its place, the register's bytes, its value, and the counter
+record Begun : Type 0 where
+  place : ℕ
+  size : ℕ
+  value : List ℕ
+  counter : ℕ
+  number : ℕ
+
+abbrev begunOf : Point → List Happening → Begun
+begunOf p hs = record {
+  place = placeFor false (bytesOf p) (p .host);
+  size = bytesOf p;
+  value = valueOf (p .chip .core) (nineAt 0x040302ff) (registerOf p);
+  counter = counterAt 8 0 p;
+  number = numberIn (registerOf p) p;
+}
+
+begins-at : found begunOf powered selecting
+    ≡ record { place = 0; size = 4; value = 0xff ∷ 0x02 ∷ 0x03 ∷ 0x04 ∷ 0 ∷ 0 ∷ []; counter = 0x040302ff; number = 0x040302ff }
+unfolding step-computes happening history run numberIn
+begins-at = found-once begunOf powered selecting refl
+
+-- what was read: whether anything disturbed it, the bytes, and the counter after it
+record Read : Type 0 where
+  quiet : Bool
+  bytes : List ℕ
+  counter : ℕ
+
+abbrev readOff : Point → List Happening → Read
+readOff p hs = record { quiet = undisturbed hs; bytes = bytesRead hs; counter = counterAt 8 0 p }
+
+reads-on : found readOff begun (dReadRecord ∷ reading) ≡ record { quiet = true; bytes = 0xff ∷ 0x02 ∷ 0x03 ∷ 0x04 ∷ []; counter = 0x04030300 }
 unfolding step-computes happening history run kindOf accepted bytesRead undisturbed
-a-sequence = record { begins = refl; first = refl; quiet = refl; enough = omega arith }
+reads-on = found-once readOff begun (dReadRecord ∷ reading) refl
 
-its-bytes : (bytesRead (history (run powered selecting) (dReadRecord ∷ reading)) ≡ 0xff ∷ 0x02 ∷ 0x03 ∷ 0x04 ∷ [])
-    × (valueOf (run powered selecting .chip .core) (nineAt 0x040302ff) (registerOf (run powered selecting)) ≡ 0xff ∷ 0x02 ∷ 0x03 ∷ 0x04 ∷ 0 ∷ 0 ∷ [])
-unfolding step-computes happening history run kindOf accepted bytesRead
-its-bytes = (refl, refl)
+first-read : reads (happening begun dReadRecord) ≡ true
+unfolding step-computes happening run kindOf accepted
+first-read = refl {a = true}
 
-moved-on : (counterAt 8 0 (run powered selecting) ≡ 0x040302ff) × (counterAt 8 0 (run (run powered selecting) (dReadRecord ∷ reading)) ≡ 0x04030300)
-unfolding step-computes happening run
-moved-on = (refl, refl)
+its-bytes : (bytesRead (history begun (dReadRecord ∷ reading)) ≡ 0xff ∷ 0x02 ∷ 0x03 ∷ 0x04 ∷ [])
+    × (valueOf (begun .chip .core) (nineAt 0x040302ff) (registerOf begun) ≡ 0xff ∷ 0x02 ∷ 0x03 ∷ 0x04 ∷ 0 ∷ 0 ∷ [])
+its-bytes = (ap (λ (s : Read). s .bytes) reads-on, ap (λ (s : Begun). s .value) begins-at)
+
+four-selected : bytesOf begun ≡ 4
+four-selected = ap (λ (s : Begun). s .size) begins-at
+
+a-sequence : Sequence begun dReadRecord reading
+a-sequence =
+    record {
+      begins = ap (λ (s : Begun). s .place) begins-at;
+      first = first-read;
+      quiet = ap (λ (s : Read). s .quiet) reads-on;
+      enough = le-of-eq (four-selected ∙ sym (ap (λ (s : Read). length (s .bytes)) reads-on));
+    }
+
+moved-on : (counterAt 8 0 begun ≡ 0x040302ff) × (counterAt 8 0 (run begun (dReadRecord ∷ reading)) ≡ 0x04030300)
+moved-on = (ap (λ (s : Begun). s .counter) begins-at, ap (λ (s : Read). s .counter) reads-on)
 
 -- six bytes: AUI's address, read twice over with the same frame after the first byte
 abbrev addressed : Point
 addressed = run powered (cWriteRecord 0x1f ∷ cWriteRecord 0xee ∷ [])
 
+abbrev bytesOff : Point → List Happening → List ℕ
+bytesOff p hs = bytesRead hs
+
 its-address : (bytesOf addressed ≡ 6)
-    × (bytesRead (history addressed (dReadRecord ∷ auiFrame ∷ replicate 11 dReadRecord)) ≡ noAddress ++ somebody)
+    × (found bytesOff addressed (dReadRecord ∷ auiFrame ∷ replicate 11 dReadRecord) ≡ noAddress ++ somebody)
 unfolding step-computes happening history run kindOf accepted bytesRead
-its-address = (refl, refl)
+its-address = (refl {a = 6}, found-once bytesOff addressed (dReadRecord ∷ auiFrame ∷ replicate 11 dReadRecord) refl)
 
 -- one byte: AUI's source address change, which the read itself clears
 abbrev changed : Point
 changed = run powered (auiFrame ∷ cWriteRecord 0x01 ∷ cWriteRecord 0xe7 ∷ [])
 
-its-bit : (bytesOf changed ≡ 1) × (bytesRead (history changed (dReadRecord ∷ dReadRecord ∷ [])) ≡ 0x80 ∷ 0 ∷ [])
+its-bit : (bytesOf changed ≡ 1) × (found bytesOff changed (dReadRecord ∷ dReadRecord ∷ []) ≡ 0x80 ∷ 0 ∷ [])
 unfolding step-computes happening history run kindOf accepted bytesRead
-its-bit = (refl, refl)
+its-bit = (refl {a = 1}, found-once bytesOff changed (dReadRecord ∷ dReadRecord ∷ []) refl)
 
 given-nine : (v : ℕ) → v < 2 ^ 32 → Given (nineAt v) 0 0
 given-nine v l =
@@ -89,11 +140,15 @@ given-nine v l =
     }
 
 four-spelt : Given (nineAt 0x040302ff) 0 0
-    × (bytesOf (run powered selecting) ≡ 4)
-    × (spelt (take 4 (bytesRead (history (run powered selecting) (dReadRecord ∷ reading)))) ≡ 0x040302ff)
-    × (numberIn (registerOf (run powered selecting)) (run powered selecting) ≡ 0x040302ff)
-unfolding step-computes happening history run kindOf accepted bytesRead numberIn
-four-spelt = (given-nine 0x040302ff (omega arith), refl, refl, refl)
+    × (bytesOf begun ≡ 4)
+    × (spelt (take 4 (bytesRead (history begun (dReadRecord ∷ reading)))) ≡ 0x040302ff)
+    × (numberIn (registerOf begun) begun ≡ 0x040302ff)
+four-spelt = (
+  given-nine 0x040302ff (omega arith),
+  four-selected,
+  ap (λ (s : Read). spelt (take 4 (s .bytes))) reads-on,
+  ap (λ (s : Begun). s .number) begins-at,
+)
 
 -- ONE RECORD
 

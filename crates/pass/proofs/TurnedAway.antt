@@ -1,13 +1,15 @@
 -- Demand 1: what is turned away changes nothing; and any two outcomes that an equation allows are one. Assumes nothing.
 --   host-left == on a run: what is not accepted leaves the host's record as it was
 use Prim.Native.Nat.{ℕ}
-use mathlib.Core.Path.{_≡_, refl, sym, _∙_}
-use mathlib.Core.Bool.{false, true≢false}
+use mathlib.Core.Path.{_≡_, refl, sym, subst, _∙_}
+use mathlib.Core.Bool.{true, false, true≢false}
 use mathlib.Core.List.{List, [], _∷_}
 use lib.ListN.{replicate}
+use Rattle.host.specs.declared.Host.{Host}
 use Rattle.answer.specs.declared.Answer.{Answer}
 use Rattle.answer.specs.declared.Answer.the-variants.{Done, Sent, Value, Refused}
 use Rattle.answer.specs.Answer.{numberOf}
+use Rattle.himib.specs.declared.step.Chip.{Chip}
 use Rattle.himib.specs.declared.step.Stepped.{Stepped}
 use Rattle.himib.specs.Step.{stepOf}
 use Rattle.himib.proofs.Refused.{refused-untouched}
@@ -39,19 +41,51 @@ meets p bs = stepOf (p .chip) (p .host) bs
 
 three-bytes : (written .host .place ≡ 3) × (counterAt 8 0 written ≡ 1)
 unfolding step-computes happening run
-three-bytes = (refl, refl)
+three-bytes = (refl {a = 3}, refl {a = 1})
 
-each-number : (meets written (replicate 31 0) ≡ turnedFrom written 9)
-    × (meets written (plainRecord 9 0 0) ≡ turnedFrom written 8)
-    × (meets written (pulseRecord 0x100) ≡ turnedFrom written 3)
-    × (meets written (burstRecord 1 0 511 64 0 0 0 noAddress) ≡ turnedFrom written 2)
-    × (meets written (burstRecord 0 0 1000 64 0 0 0 noAddress) ≡ turnedFrom written 1)
-    × (meets written (cWriteRecord 0x20) ≡ turnedFrom written 7)
-    × (meets unlisted dReadRecord ≡ turnedFrom unlisted 5)
-    × (meets setting dReadRecord ≡ turnedFrom setting 6)
-    × (meets setting (dWriteRecord 0) ≡ turnedFrom setting 4)
+-- the bytes alone decide the first six, wherever they are met
+abbrev Six : Point → Type 0
+Six p = (meets p (replicate 31 0) ≡ turnedFrom p 9)
+    × (meets p (plainRecord 9 0 0) ≡ turnedFrom p 8)
+    × (meets p (pulseRecord 0x100) ≡ turnedFrom p 3)
+    × (meets p (burstRecord 1 0 511 64 0 0 0 noAddress) ≡ turnedFrom p 2)
+    × (meets p (burstRecord 0 0 1000 64 0 0 0 noAddress) ≡ turnedFrom p 1)
+    × (meets p (cWriteRecord 0x20) ≡ turnedFrom p 7)
+
+six : (p : Point) → Six p
+unfolding step-computes
+six p = (refl, refl, refl, refl, refl, refl)
+
+-- the host's record decides the others, on any chip: P 3 R 14 is selected, which is not listed, or P 0 R 30, which is S
+abbrev copy : List ℕ
+copy = 1 ∷ 2 ∷ 3 ∷ 0 ∷ 0 ∷ 0 ∷ []
+
+abbrev selecting : Chip → ℕ → ℕ → Point
+selecting s page register = record { chip = s; host = record { page = page; register = register; bytes = copy; place = 0; writing = true } }
+
+abbrev Fifth : Point → Type 0
+Fifth p = meets p dReadRecord ≡ turnedFrom p 5
+
+abbrev Others : Point → Type 0
+Others p = (meets p dReadRecord ≡ turnedFrom p 6) × (meets p (dWriteRecord 0) ≡ turnedFrom p 4)
+
+by-selection : (s : Chip) → Fifth (selecting s 3 14) × Others (selecting s 0 30)
+unfolding step-computes
+by-selection s = (refl, (refl, refl))
+
+selected : (selecting (unlisted .chip) 3 14 .host ≡ unlisted .host) × (selecting (setting .chip) 0 30 .host ≡ setting .host)
 unfolding step-computes happening run
-each-number = (refl, refl, refl, refl, refl, refl, refl, refl, refl)
+selected = (refl, refl)
+
+abbrev beside : Point → Host → Point
+beside p h = record { chip = p .chip; host = h }
+
+each-number : Six written × Fifth unlisted × Others setting
+each-number = (
+  six written,
+  subst (λ (h : Host). Fifth (beside unlisted h)) (selected .0) (by-selection (unlisted .chip) .0),
+  subst (λ (h : Host). Others (beside setting h)) (selected .1) (by-selection (setting .chip) .1),
+)
 
 -- THE THEOREMS
 
