@@ -44,7 +44,7 @@ use Rattle.himib.specs.Step.{actOn, readdressed, taken, stepOf}
 use Rattle.pass.specs.Runs.{Point, Happening, happening, history, run, start, Given, kindOf, accepted, ifBurst}
 use Rattle.pass.specs.Pass.{changeBit, differs, changes, isChange, clears, noneOf, cameAfter, ChangeBitsByPast}
 use Rattle.pass.specs.Examples.{noAddress, burstRecord, pulseRecord, cWriteRecord, dReadRecord, resetRecord, attributesUp, up}
-use Rattle.pass.proofs.Computing.{step-computes}
+use Rattle.pass.proofs.Computing.{step-computes, found, foundAfter, found-once, found-after-once}
 use Rattle.pass.proofs.Accesses.{after-write, after-read}
 use Rattle.pass.proofs.AddressCounter.{countedIn, Fits, readdressed-fits, readdressed-counted, credited-fits, credited-counted, heard-changed}
 
@@ -59,9 +59,15 @@ given-up = record {
   octets-low = lit< tt;
 }
 
--- From power-up the records leave bit j of register R one or not, and this is whether its event came after the last clearing record.
-abbrev Both : ℕ → ℕ → List (List ℕ) → Bool → Type 0
-Both r j rs b = (changeBit r j (run up rs) ≡ b) × (cameAfter (changes r j) (clears r) (history up rs) ≡ b)
+-- bit j of register R, and whether its event came after the last clearing record
+abbrev told : ℕ → ℕ → Point → List Happening → List Bool
+told r j p hs = changeBit r j p ∷ cameAfter (changes r j) (clears r) hs ∷ []
+
+abbrev yes : List Bool
+yes = true ∷ true ∷ []
+
+abbrev no : List Bool
+no = false ∷ false ∷ []
 
 -- AUI is partitioned by a long collision, and connected again
 abbrev cut : List (List ℕ)
@@ -86,27 +92,35 @@ frame a = replicate 4 (pulseRecord 0b1) ++ (burstRecord 0b1 0b11000 1000 64 0 0 
 abbrev greeting : List (List ℕ)
 greeting = burstRecord 0b100000000 0 1000 64 0 0 0 (1 ∷ replicate 5 0) ∷ []
 
-set-read-set : Both 1 7 cut true
-    × Both 1 7 (cut ++ look 1) false
-    × Both 1 7 (cut ++ look 1 ++ joined) true
-    × Both 1 7 (cut ++ look 0) true
-    × Both 1 7 (cut ++ look 5) true
-    × Both 1 7 (cut ++ (resetRecord ∷ [])) false
-unfolding step-computes run history happening kindOf accepted ifBurst changes noneOf cameAfter
-set-read-set = ((refl, refl), (refl, refl), (refl, refl), (refl, refl), (refl, refl), (refl, refl))
+-- after that collision: nothing, a read, a read and the other change, reads of other registers, and a reset
+abbrev endings : List (List (List ℕ))
+endings = [] ∷ look 1 ∷ (look 1 ++ joined) ∷ look 0 ∷ look 5 ∷ (resetRecord ∷ []) ∷ []
 
-each-register : Both 0 0 (split ++ look 5) true
-    × Both 1 7 cut true
-    × Both 2 0 (frame 1) true
-    × Both 2 1 (frame 1) false
-    × Both 3 7 (frame 1) true
-    × Both 4 7 (frame 1) true
-    × Both 6 0 (frame 1) true
-    × Both 6 0 (frame 0) false
-    × Both 6 0 (frame 1 ++ look 6 ++ frame 1) false
-    × Both 7 7 greeting true
+set-read-set : foundAfter (told 1 7) up cut endings ≡ yes ∷ no ∷ yes ∷ yes ∷ yes ∷ no ∷ []
 unfolding step-computes run history happening kindOf accepted ifBurst changes noneOf cameAfter
-each-register = ((refl, refl), (refl, refl), (refl, refl), (refl, refl), (refl, refl), (refl, refl), (refl, refl), (refl, refl), (refl, refl), (refl, refl))
+set-read-set = found-after-once (told 1 7) up cut endings refl
+
+-- TP0's and TP1's link, loopback, SQE Test and TP0's address
+abbrev five : Point → List Happening → List (List Bool)
+five p hs = told 2 0 p hs ∷ told 2 1 p hs ∷ told 3 7 p hs ∷ told 4 7 p hs ∷ told 6 0 p hs ∷ []
+
+-- the address is read, and TP0 sends from it again
+abbrev again : List (List (List ℕ))
+again = [] ∷ (look 6 ++ frame 1) ∷ []
+
+each-register : (found (told 0 0) up (split ++ look 5) ≡ yes)
+    × (found (told 1 7) up cut ≡ yes)
+    × (foundAfter five up (frame 1) again ≡ (yes ∷ no ∷ yes ∷ yes ∷ yes ∷ []) ∷ (yes ∷ no ∷ yes ∷ yes ∷ no ∷ []) ∷ [])
+    × (found (told 6 0) up (frame 0) ≡ no)
+    × (found (told 7 7) up greeting ≡ yes)
+unfolding step-computes run history happening kindOf accepted ifBurst changes noneOf cameAfter
+each-register = (
+  found-once (told 0 0) up (split ++ look 5) refl,
+  found-once (told 1 7) up cut refl,
+  found-after-once five up (frame 1) again refl,
+  found-once (told 6 0) up (frame 0) refl,
+  found-once (told 7 7) up greeting refl,
+)
 
 -- SETS THAT DIFFER
 

@@ -83,22 +83,35 @@ both p hs = told 0 p hs ∷ told 1 p hs ∷ []
 abbrev endings : List (List (List ℕ))
 endings = [] ∷ crowd ∷ (crowd ++ alone 512) ∷ (crowd ++ alone 513) ∷ (crowd ++ disabling) ∷ (crowd ++ (resetRecord ∷ [])) ∷ []
 
--- after 31 collisions of AUI: nothing, and a 32nd
+abbrev TpBoundaries : Type 0
+TpBoundaries =
+    foundAfter both up (crowded 31) endings
+    ≡ (no ∷ no ∷ []) ∷ (yes ∷ yes ∷ []) ∷ (yes ∷ yes ∷ []) ∷ (no ∷ yes ∷ []) ∷ (no ∷ yes ∷ []) ∷ (no ∷ no ∷ []) ∷ []
+
+tp-boundaries : TpBoundaries
+unfolding step-computes run history happening eventAt eventOf followedEvent burstEvent kindOf ifBurst
+tp-boundaries = found-after-once both up (crowded 31) endings refl
+
+-- after 31 collisions of AUI: nothing, and a 32nd; and one collision alone
 abbrev auiEndings : List (List (List ℕ))
 auiEndings = [] ∷ signalled 1 300 ∷ []
 
-at-boundaries : (foundAfter both up (crowded 31) endings
-    ≡ (no ∷ no ∷ []) ∷ (yes ∷ yes ∷ []) ∷ (yes ∷ yes ∷ []) ∷ (no ∷ yes ∷ []) ∷ (no ∷ yes ∷ []) ∷ (no ∷ no ∷ []) ∷ [])
-    × (foundAfter (told 8) up (signalled 31 300) auiEndings ≡ no ∷ yes ∷ [])
-    × (found (told 8) up (signalled 1 1024) ≡ no)
-    × (found (told 8) up (signalled 1 1025) ≡ yes)
+abbrev AuiBoundaries : Type 0
+AuiBoundaries = foundAfter (told 8) up (signalled 31 300) auiEndings ≡ no ∷ yes ∷ []
+
+aui-boundaries : AuiBoundaries
 unfolding step-computes run history happening eventAt eventOf followedEvent burstEvent kindOf ifBurst
-at-boundaries = (
-  found-after-once both up (crowded 31) endings refl,
-  found-after-once (told 8) up (signalled 31 300) auiEndings refl,
-  found-once (told 8) up (signalled 1 1024) refl,
-  found-once (told 8) up (signalled 1 1025) refl,
-)
+aui-boundaries = found-after-once (told 8) up (signalled 31 300) auiEndings refl
+
+abbrev LongBoundary : Type 0
+LongBoundary = (found (told 8) up (signalled 1 1024) ≡ no) × (found (told 8) up (signalled 1 1025) ≡ yes)
+
+long-boundary : LongBoundary
+unfolding step-computes run history happening eventAt eventOf followedEvent burstEvent kindOf ifBurst
+long-boundary = (found-once (told 8) up (signalled 1 1024) refl, found-once (told 8) up (signalled 1 1025) refl)
+
+at-boundaries : TpBoundaries × AuiBoundaries × LongBoundary
+at-boundaries = (tp-boundaries, aui-boundaries, long-boundary)
 
 -- the two ways of being struck
 struck-by-32 : Struck (since (map (eventAt 0) (history up (crowded 32))))
