@@ -1,5 +1,6 @@
 -- Demand 3 for a port's partition: after any list of records from power-up a port is partitioned exactly if its past since the last clearing event struck it.
--- The repeater's own proofs (Past and Events there) go from events to standings; here each record is tied to the event that it is to a port. Assumes nothing.
+-- The crate history goes from events to standings, the repeater's Events from its inputs to events; here each record is tied to the event that it is to a port.
+-- Assumes nothing.
 --   at-boundaries     == both sides computed on lists of records; struck-by-32 and struck-by-1025, the two ways of being struck
 --   moves             == one record moves a port's standing as its event says
 --   partition-by-past == demand 3

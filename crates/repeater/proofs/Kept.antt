@@ -1,6 +1,6 @@
 -- What leaves what alone, for the layer above: ticks, link pulses and Gets partition and connect nobody, a Get fails and raises no link, and nothing changes the
 -- number of ports. Assumes nothing.
---   Unlinked q, ticks-keep, pulses-keep  == what looks at no link of a port is the same after a tick and after link pulses
+--   ticks-keep, pulses-keep              == what looks at no link of a port is the same after a tick and after link pulses
 --   partitioned-ticked, -pulsed, -got    == the partitioned ports are the same after it
 --   linked-got                           == so are the TP ports whose link passes
 --   partitioned-lt, linked-lt            == how large the two masks can be

@@ -1,4 +1,4 @@
--- The whole repeater: what each record and command of document 01 does to it. Every public function is stated with a definition of this file.
+-- The whole repeater: what each record and command of document 01 does to it. Every public function is stated with a definition of this file, of Hearing or of Reset.
 --   tickedAll r, pulsedAll r m == after a tick, after link pulses of the mask's TP ports
 --   portAfter                  == a port after a burst: its partition step if it is in T, then its link if the mask has it
 --   burstOf r b                == after a burst, with what was heard, what followed and the status bits it set
