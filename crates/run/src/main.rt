@@ -2,7 +2,8 @@
 // An optional argument names a start file with counters and addresses.
 ghost use Prim.Native.Nat.{_+_, _≤_, _<_};
 ghost use mathlib.Core.Path.{_≡_};
-ghost use lib.ListN.{length};
+ghost use lib.ListN.{length, take, drop};
+ghost use Rattle.run.specs.Kept.{Kept};
 use himib::step::Chip;
 use host::Host;
 
@@ -11,6 +12,13 @@ struct State {
     chip: Chip,
     host: Host,
     number: u64,
+}
+
+// After the whole records of a reading: the state, how many bytes are left over, and how many bytes the lines have.
+struct Done {
+    state: State,
+    left: usize,
+    used: usize,
 }
 
 // After one reading: the state, the bytes of a record that is not whole yet, and whether to go on.
@@ -23,16 +31,17 @@ struct Turn {
 // Moves n bytes from place at on to the front.
 fn shift(buf: &mut [u8], at: usize, n: usize)
     requires { ⌜ at + n ≤ length (now buf) ⌝ }
+    ensures { λ _. ⌜ take n (now (buf .exit)) ≡ take n (drop at (now (buf .entry))) ⌝ }
 {
     for i in 0..n {
         buf[i] = buf[at + i];
     }
 }
 
-// Reads once behind the bytes that are kept, and tells how many there are then.
+// Reads once behind the bytes that are kept, which stay, and tells how many there are then.
 fn fill(buf: &mut [u8], have: usize) -> usize
     requires { ⌜ have ≤ length (now buf) ⌝ }
-    ensures { λ r. ⌜ (have ≤ r) × (r ≤ length (now (buf .exit))) ⌝ }
+    ensures { λ r. ⌜ (have ≤ r) × (r ≤ length (now (buf .exit))) × (take have (now (buf .exit)) ≡ take have (now (buf .entry))) ⌝ }
 {
     let rest = &mut buf[have..];
     let got = libc::read(0, rest);
@@ -52,6 +61,38 @@ fn finish(number: u64, piece: &[u8], out: &mut [u8])
     }
 }
 
+// Answers the whole records among the buffer's first bytes, and moves what is left of these bytes to the front.
+fn work(state: State, total: usize, buf: &mut [u8], out: &mut [u8]) -> Done
+    requires { ⌜ total ≤ length (now buf) ⌝ }
+    requires { ⌜ length (now buf) ≡ 65536 ⌝ }
+    requires { ⌜ length (now out) ≡ 65536 ⌝ }
+    ensures { λ r. ⌜ Kept state (take total (now (buf .entry))) (now (out .entry)) r (now (buf .exit)) (now (out .exit)) ⌝ }
+{
+    let chip = state.chip;
+    let core = chip.core;
+    let nine = chip.attributes;
+    let record = state.host;
+    let b = block::answer_block(core, nine, record, state.number, &buf[0..total], out);
+    let at = b.at;
+    let after = b.core;
+    let credited = b.attributes;
+    let altered = b.host;
+    let left = total - at;
+    shift(buf, at, left);
+    Done {
+        state: State {
+            chip: Chip {
+                core: after,
+                attributes: credited,
+            },
+            host: altered,
+            number: b.number,
+        },
+        left: left,
+        used: b.used,
+    }
+}
+
 // One reading, its answers and one writing. The end of the input ends it, and so does an output that is closed.
 fn one_turn(state: State, have: usize, buf: &mut [u8], out: &mut [u8]) -> Turn
     requires { ⌜ have < 32 ⌝ }
@@ -68,29 +109,13 @@ fn one_turn(state: State, have: usize, buf: &mut [u8], out: &mut [u8]) -> Turn
             going: false,
         };
     }
-    let chip = state.chip;
-    let core = chip.core;
-    let nine = chip.attributes;
-    let record = state.host;
-    let b = block::answer_block(core, nine, record, state.number, &buf[0..total], out);
-    let at = b.at;
-    let used = b.used;
-    let after = b.core;
-    let credited = b.attributes;
-    let altered = b.host;
-    let left = total - at;
-    shift(buf, at, left);
+    let done = work(state, total, buf, out);
+    let next = done.state;
+    let used = done.used;
     let going = io::write_all(1, &out[0..used]);
     Turn {
-        state: State {
-            chip: Chip {
-                core: after,
-                attributes: credited,
-            },
-            host: altered,
-            number: b.number,
-        },
-        have: left,
+        state: next,
+        have: done.left,
         going: going,
     }
 }

@@ -1,20 +1,22 @@
 use borrow.Author.Needs.{needs}
-use lib.ListN.{length}
-use mathlib.Core.Path.{_≡_}
-use Prim.Native.Nat.{_≤_, _-_}
+use lib.ListN.{length, take, drop}
+use Rattle.run.proofs.Moving.{moved-front, moved-back}
+use mathlib.Core.Path.{_≡_, refl}
+use native.Mathlib.Omega.{arith}
+use Prim.Native.Nat.{_+_, _≤_, _<_, _-_}
 use Rattle.run.proofs.shift.Statement.{statement}
 use Rattle.run.proofs.shift.Tie as tie
 use Rattle.run.proofs.shift.Reads as reads
 use Rattle.run.proofs.shift.Lts as lts
 
 abbrev Inv-loop : tie.InvT-loop
-Inv-loop buf₀ at n i₀ buf i = (i ≤ n) × (length buf ≡ length buf₀)
+Inv-loop buf₀ at n i₀ buf i = (i ≤ n) × (length buf ≡ length buf₀) × (take i buf ≡ take i (drop at buf₀)) × (drop i buf ≡ drop i buf₀)
 
 abbrev μ-loop : tie.MeasureT-loop
 μ-loop buf₀ at n i₀ buf i = n - i
 
 loop-holds : tie.Need-loop-holds Inv-loop μ-loop
-loop-holds c = search needs
+loop-holds c = (omega arith, refl, refl, refl)
 
 add-buf : tie.Need-add-buf Inv-loop μ-loop
 add-buf c = search needs
@@ -32,13 +34,23 @@ loop-less : tie.Need-loop-less Inv-loop μ-loop
 loop-less c = search needs
 
 loop-again : tie.Need-loop-again Inv-loop μ-loop
-loop-again c = search needs
+loop-again c =
+    let l = c .before .before in
+    let a = l .before .args in
+    let inside : a .at + l .loop .i < length (a .buf .now) = search needs in (
+      search needs,
+      search needs,
+      moved-front (a .buf .now) (l .loop .buf) (a .at) (l .loop .i) (l .loop .inv .1) inside (l .loop .inv .2) (l .loop .inv .3),
+      moved-back (a .buf .now) (l .loop .buf) (a .at) (l .loop .i) (l .loop .inv .1) inside (l .loop .inv .2) (l .loop .inv .3),
+    )
 
 same-length : tie.Need-same-length Inv-loop μ-loop
 same-length c = search needs
 
 returns : tie.Need-returns Inv-loop μ-loop
-returns c = search needs
+returns c =
+    let k : c .before .loop .i ≡ c .before .before .args .n = search needs in
+    rw (← k) (c .before .loop .inv .2)
 
 pub shift-spec : {M : Type 1} → statement M
 shift-spec =
