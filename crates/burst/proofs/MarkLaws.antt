@@ -6,11 +6,11 @@ use native.Mathlib.Omega.{arith}
 use lib.Dec.{eqb, ltb}
 use Rattle.ports.specs.Sets.{aui, has, setOf}
 use Rattle.ports.proofs.Sets.{has-gather, low-byte, set-empty}
+use Rattle.management.specs.declared.Status.{Status}
 use Rattle.burst.specs.declared.Burst.{Burst}
 use Rattle.burst.specs.declared.Heard.{Heard}
 use Rattle.burst.specs.declared.Hearing.{Hearing}
 use Rattle.burst.specs.declared.Effect.{Effect}
-use Rattle.management.specs.declared.Status.{Status}
 use Rattle.burst.specs.Marks.{alone, marksOf}
 
 module _ (g : Hearing) (f : Effect) (b : Burst) (m : ℕ) (p q : Bool) where

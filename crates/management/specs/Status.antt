@@ -4,10 +4,10 @@
 --   marked s m     == the status s with the bits of m set as well
 --   clearedBy q s  == the status after a Get
 -- Assumes nothing.
-use mathlib.Core.Bool.{false, Bool, _||_}
-use Rattle.management.specs.declared.Status.{Status}
 use Prim.Native.Nat.{ℕ}
+use mathlib.Core.Bool.{Bool, false, _||_}
 use lib.Bits.{bitOr}
+use Rattle.management.specs.declared.Status.{Status}
 use Rattle.management.specs.declared.Query.{Query}
 use Rattle.management.specs.declared.Query.the-variants.{Aui, AuiClearB, AuiClearSl, AuiClearBsl, Partition, Rates, Link, Jabber, Version}
 

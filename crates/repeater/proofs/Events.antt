@@ -11,8 +11,8 @@ use Prim.Native.Nat.{ℕ, zero, suc, _≤_, _<_}
 use mathlib.Core.Path.{_≡_, refl, ap, _∙_}
 use mathlib.Core.Bool.{Bool, true, false, cond, _&&_, and-false}
 use mathlib.Core.List.{List, [], _∷_}
-use borrow.Author.Tests.{ne-eqb, leb-true, leb-false}
 use native.Mathlib.Omega.{arith}
+use borrow.Author.Tests.{ne-eqb, leb-true, leb-false}
 use lib.Dec.{eqb, ltb, leb, eqb·suc-suc}
 use lib.ListN.{length, getD, set, replicate, List·getD-eq-default}
 use Rattle.ports.specs.Sets.{aui, has}
@@ -28,24 +28,24 @@ use Rattle.burst.specs.declared.Effect.{Effect}
 use Rattle.management.specs.declared.Setting.{Setting}
 use Rattle.management.specs.declared.Setting.the-variants.{AlternateAui, AlternateTp, DisableAui, EnableAui, DisableTp, EnableTp, LinkTestOff, LinkTestOn}
 use Rattle.management.specs.declared.Query.{Query}
-use Rattle.repeater.specs.declared.Repeater.{Repeater}
-use Rattle.repeater.specs.declared.Those.the-variants.{Transmitting}
 use Rattle.port.specs.Port.{noPort}
 use Rattle.port.specs.Reset.{tpUp, auiUp}
-use Rattle.repeater.specs.Reset.{powerUp}
-use Rattle.repeater.specs.Hearing.{inT, hearingOf, meetingOf}
 use Rattle.burst.specs.Burst.{effectOf}
 use Rattle.burst.specs.Clean.{cleanAt, reconnectingAt}
 use Rattle.port.specs.Settings.{changed}
-use Rattle.repeater.specs.Repeater.{tickedAll, pulsedAll, alternateFor, partitionedAt, portAfter, followed, burstOf, changedAt, changedTp, setTo, gotOf, among}
 use Rattle.history.specs.History.{neither, cleared, connected, partitioned, afterEvent, since, Struck}
 use Rattle.port.specs.Standing.{standingOf, eventOf}
-use Rattle.repeater.specs.Events.{standingAt, followedEvent, burstEvent, disables, setEvent, Input, burst, pulse, tick, setting, query, reset, afterInput, inputEvent, afterInputs, inputEvents}
-use Rattle.repeater.proofs.RepeaterLaws.{past-among}
 use Rattle.history.proofs.Past.{Keeps, told-exactly}
 use Rattle.port.proofs.Kept.{revived-at-keeps}
-use Rattle.repeater.proofs.Kept.{ticks-keep, pulses-keep, ports-bursted}
 use Rattle.port.proofs.Standing.{Fair, tied, stays, clears, linkless, disabling-moves, quiet, quiet-keeps}
+use Rattle.repeater.specs.declared.Repeater.{Repeater}
+use Rattle.repeater.specs.declared.Those.the-variants.{Transmitting}
+use Rattle.repeater.specs.Reset.{powerUp}
+use Rattle.repeater.specs.Hearing.{inT, hearingOf, meetingOf}
+use Rattle.repeater.specs.Repeater.{tickedAll, pulsedAll, alternateFor, partitionedAt, portAfter, followed, burstOf, changedAt, changedTp, setTo, gotOf, among}
+use Rattle.repeater.specs.Events.{standingAt, followedEvent, burstEvent, disables, setEvent, Input, burst, pulse, tick, setting, query, reset, afterInput, inputEvent, afterInputs, inputEvents}
+use Rattle.repeater.proofs.RepeaterLaws.{past-among}
+use Rattle.repeater.proofs.Kept.{ticks-keep, pulses-keep, ports-bursted}
 
 -- WHAT A BURST IS TO A PORT
 

@@ -11,8 +11,8 @@ use Rattle.port.specs.declared.Port.{Port}
 use Rattle.burst.specs.declared.Burst.{Burst}
 use Rattle.burst.specs.declared.Heard.the-variants.{Nothing, One, More}
 use Rattle.burst.specs.Burst.{inE}
-use Rattle.repeater.specs.Hearing.{inT, inH, hearingOf}
 use Rattle.burst.proofs.Counted.{heard-nothing, heard-one, heard-more}
+use Rattle.repeater.specs.Hearing.{inT, inH, hearingOf}
 
 module _ (ps : List Port) (b : Burst) where
   pub nothing-heard : Exactly (hearingOf ps b .heard ≡ Nothing) (None (hearingOf ps b .h))

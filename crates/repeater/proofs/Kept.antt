@@ -23,17 +23,17 @@ use Rattle.burst.specs.declared.Hearing.{Hearing}
 use Rattle.management.specs.declared.Setting.{Setting}
 use Rattle.management.specs.declared.Setting.the-variants.{AlternateAui, AlternateTp, DisableAui, EnableAui, DisableTp, EnableTp, LinkTestOff, LinkTestOn}
 use Rattle.management.specs.declared.Query.{Query}
-use Rattle.repeater.specs.declared.Repeater.{Repeater}
-use Rattle.repeater.specs.declared.Those.the-variants.{Partitioned, Linked}
 use Rattle.port.specs.Port.{noPort}
-use Rattle.repeater.specs.Reset.{powerUp}
-use Rattle.repeater.specs.Hearing.{hearingOf}
 use Rattle.burst.specs.Burst.{effectOf}
 use Rattle.port.specs.Settings.{changed}
 use Rattle.port.specs.Link.{tickedAt, pulsedAt}
+use Rattle.port.proofs.Kept.{Unlinked, ticked-at-keeps, pulsed-at-keeps}
+use Rattle.repeater.specs.declared.Repeater.{Repeater}
+use Rattle.repeater.specs.declared.Those.the-variants.{Partitioned, Linked}
+use Rattle.repeater.specs.Reset.{powerUp}
+use Rattle.repeater.specs.Hearing.{hearingOf}
 use Rattle.repeater.specs.Repeater.{tickedAll, pulsedAll, portAfter, followed, burstOf, changedAt, changedTp, setTo, gotOf, among, thoseOf, partitionedOf, linkedOf}
 use Rattle.repeater.proofs.RepeaterLaws.{those-lt}
-use Rattle.port.proofs.Kept.{Unlinked, ticked-at-keeps, pulsed-at-keeps}
 
 -- WHAT LOOKS AT NO LINK
 

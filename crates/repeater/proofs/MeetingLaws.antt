@@ -12,8 +12,8 @@ use Rattle.burst.specs.declared.Hearing.{Hearing}
 use Rattle.burst.specs.declared.Effect.{Effect}
 use Rattle.port.specs.Link.{revivedAt}
 use Rattle.burst.specs.Clean.{cleanAt, reconnectingAt}
-use Rattle.repeater.specs.Hearing.{meetingOf}
 use Rattle.port.specs.Partition.{afterMeeting}
+use Rattle.repeater.specs.Hearing.{meetingOf}
 use Rattle.repeater.specs.Repeater.{alternateFor, partitionedAt, portAfter}
 
 -- a port after the burst, from the sets; of the two sets of ports that it connects again, back is the one that port i goes by

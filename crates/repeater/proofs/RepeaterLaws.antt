@@ -4,9 +4,9 @@ use mathlib.Core.Path.{_≡_, refl, ap, _∙_}
 use mathlib.Core.Bool.{Bool, false, not, and-false}
 use mathlib.Core.List.{List}
 use native.Mathlib.Omega.{arith}
+use borrow.Author.Tests.{lt-ltb}
 use lib.Dec.{ltb}
 use lib.Bits.{bitAnd, and-le-l}
-use borrow.Author.Tests.{lt-ltb}
 use lib.ListN.{length, getD, List·getD-eq-default}
 use Rattle.ports.specs.Sets.{has, gather, setOf}
 use Rattle.ports.proofs.Sets.{gatherFrom, from-all, gather-more, gather-lt, has-gather, has-and, has-others, has-mod, is-gather, low-byte}
@@ -14,10 +14,10 @@ use Rattle.port.specs.declared.Port.{Port}
 use Rattle.burst.specs.declared.Burst.{Burst}
 use Rattle.burst.specs.declared.Heard.{Heard}
 use Rattle.burst.specs.declared.Hearing.{Hearing}
-use Rattle.repeater.specs.declared.Those.{Those}
-use Rattle.repeater.specs.declared.Those.the-variants.{Transmitting, Listening, Partitioned, Linked, Enabled}
 use Rattle.port.specs.Port.{noPort}
 use Rattle.burst.specs.Burst.{inE, heardOf}
+use Rattle.repeater.specs.declared.Those.{Those}
+use Rattle.repeater.specs.declared.Those.the-variants.{Transmitting, Listening, Partitioned, Linked, Enabled}
 use Rattle.repeater.specs.Hearing.{inL, inH, transmits, listens, hearingOf}
 use Rattle.repeater.specs.declared.Repeater.{Repeater}
 use Rattle.repeater.specs.Answers.{connectedAt, passingAt}

@@ -9,18 +9,18 @@ use mathlib.Core.List.{List, map}
 use lib.Count.{ones, trailingZeros}
 use Rattle.ports.specs.Sets.{has, gather}
 use Rattle.ports.specs.Each.{each}
-use Rattle.repeater.specs.Reset.{powerUp}
-use Rattle.repeater.specs.Hearing.{transmits, listens, hearingOf}
 use Rattle.burst.specs.Burst.{heardOf, collisionHeard, wordOf, sentTo, collidedAt, effectOf}
 use Rattle.burst.specs.Clean.{dataTo, cleanAt, reconnectingAt}
-use Rattle.repeater.specs.Hearing.{meetingOf}
 use Rattle.port.specs.Partition.{partitioning, afterMeeting}
 use Rattle.port.specs.Link.{ticked, pulsed, revived, tickedAt, pulsedAt, revivedAt}
 use Rattle.burst.specs.Marks.{marksOf}
 use Rattle.management.specs.Status.{marked}
-use Rattle.repeater.specs.Repeater.{tickedAll, pulsedAll, alternateFor, partitionedAt, portAfter, followed, burstOf, changedAt, changedTp, setTo}
 use Rattle.port.specs.Settings.{changed}
 use Rattle.port.specs.Standing.{eventOf}
+use Rattle.repeater.specs.Reset.{powerUp}
+use Rattle.repeater.specs.Hearing.{transmits, listens, hearingOf}
+use Rattle.repeater.specs.Hearing.{meetingOf}
+use Rattle.repeater.specs.Repeater.{tickedAll, pulsedAll, alternateFor, partitionedAt, portAfter, followed, burstOf, changedAt, changedTp, setTo}
 use Rattle.repeater.specs.Events.{followedEvent, burstEvent, disables, setEvent, inputEvents}
 use Rattle.repeater.specs.Sheet.{Row, found, Scene, followedBy, sheet, shortcuts, links, scenes, story, told}
 

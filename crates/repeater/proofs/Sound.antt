@@ -24,22 +24,22 @@ use Rattle.burst.specs.declared.Effect.{Effect}
 use Rattle.management.specs.declared.Setting.{Setting}
 use Rattle.management.specs.declared.Setting.the-variants.{AlternateAui, AlternateTp, DisableAui, EnableAui, DisableTp, EnableTp, LinkTestOff, LinkTestOn}
 use Rattle.management.specs.declared.Query.{Query}
-use Rattle.repeater.specs.declared.Repeater.{Repeater}
 use Rattle.port.specs.Port.{noPort}
 use Rattle.port.specs.Reset.{tpUp, auiUp}
-use Rattle.repeater.specs.Reset.{powerUp}
-use Rattle.repeater.specs.Hearing.{transmits, hearingOf, meetingOf}
 use Rattle.burst.specs.Burst.{effectOf}
 use Rattle.port.specs.Partition.{afterMeeting}
 use Rattle.port.specs.Link.{tickedAt, pulsedAt}
 use Rattle.port.specs.Settings.{changed}
+use Rattle.port.specs.Sound.{SoundPort}
+use Rattle.port.proofs.Sound.{ticked-at-sound, pulsed-at-sound, revived-at-sound, met, changed-sound, tp-sound, aui-sound, choose}
+use Rattle.repeater.specs.declared.Repeater.{Repeater}
+use Rattle.repeater.specs.Reset.{powerUp}
+use Rattle.repeater.specs.Hearing.{transmits, hearingOf, meetingOf}
 use Rattle.repeater.specs.Repeater.{tickedAll, pulsedAll, alternateFor, partitionedAt, portAfter, followed, burstOf, changedAt, changedTp, setTo, gotOf}
 use Rattle.repeater.specs.Events.{Input, burst, pulse, tick, setting, query, reset, afterInput, afterInputs}
-use Rattle.port.specs.Sound.{SoundPort}
 use Rattle.repeater.specs.Sound.{Sound}
 use Rattle.repeater.proofs.Hearing.{transmitting-at}
 use Rattle.repeater.proofs.Kept.{ports-ticked, ports-pulsed, ports-followed}
-use Rattle.port.proofs.Sound.{ticked-at-sound, pulsed-at-sound, revived-at-sound, met, changed-sound, tp-sound, aui-sound, choose}
 
 module _ (i : ℕ) (p : Port) (s : SoundPort i p) where
   met-at : (g : Hearing) (f : Effect) (b : Burst) (alternate : Bool) → (has (g .t) i ≡ true → p .enabled ≡ true) → SoundPort i (partitionedAt g f b alternate i p)

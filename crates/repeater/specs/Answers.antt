@@ -9,8 +9,8 @@ use lib.ListN.{getD}
 use Rattle.ports.specs.Sets.{aui, gather}
 use Rattle.management.specs.declared.Query.{Query}
 use Rattle.management.specs.declared.Query.the-variants.{Aui, AuiClearB, AuiClearSl, AuiClearBsl, Partition, Rates, Link, Jabber, Version}
-use Rattle.repeater.specs.declared.Repeater.{Repeater}
 use Rattle.port.specs.Port.{noPort}
+use Rattle.repeater.specs.declared.Repeater.{Repeater}
 
 -- a port's bit in a Get's answer, at place i
 abbrev pub connectedAt : Repeater → ℕ → Bool

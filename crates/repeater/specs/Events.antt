@@ -18,14 +18,14 @@ use Rattle.burst.specs.declared.Hearing.{Hearing}
 use Rattle.management.specs.declared.Setting.{Setting}
 use Rattle.management.specs.declared.Setting.the-variants.{AlternateAui, AlternateTp, DisableAui, EnableAui, DisableTp, EnableTp, LinkTestOff, LinkTestOn}
 use Rattle.management.specs.declared.Query.{Query}
-use Rattle.repeater.specs.declared.Repeater.{Repeater}
 use Rattle.port.specs.Port.{noPort}
-use Rattle.repeater.specs.Reset.{powerUp}
-use Rattle.repeater.specs.Hearing.{hearingOf, meetingOf}
 use Rattle.burst.specs.Burst.{effectOf}
-use Rattle.repeater.specs.Repeater.{alternateFor, tickedAll, pulsedAll, burstOf, setTo, gotOf}
 use Rattle.history.specs.History.{Event, neither, cleared, Standing}
 use Rattle.port.specs.Standing.{standingOf, eventOf}
+use Rattle.repeater.specs.declared.Repeater.{Repeater}
+use Rattle.repeater.specs.Reset.{powerUp}
+use Rattle.repeater.specs.Hearing.{hearingOf, meetingOf}
+use Rattle.repeater.specs.Repeater.{alternateFor, tickedAll, pulsedAll, burstOf, setTo, gotOf}
 
 abbrev pub standingAt : Repeater → ℕ → Standing
 standingAt r i = standingOf (getD (r .ports) i noPort)

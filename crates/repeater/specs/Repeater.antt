@@ -22,22 +22,22 @@ use Rattle.burst.specs.declared.Effect.{Effect}
 use Rattle.management.specs.declared.Setting.{Setting}
 use Rattle.management.specs.declared.Setting.the-variants.{AlternateAui, AlternateTp, DisableAui, EnableAui, DisableTp, EnableTp, LinkTestOff, LinkTestOn}
 use Rattle.management.specs.declared.Query.{Query}
-use Rattle.repeater.specs.declared.Repeater.{Repeater}
-use Rattle.repeater.specs.declared.Bursted.{Bursted}
-use Rattle.repeater.specs.declared.Got.{Got}
-use Rattle.repeater.specs.declared.Those.{Those}
-use Rattle.repeater.specs.declared.Those.the-variants.{Transmitting, Listening, Partitioned, Linked, Enabled}
 use Rattle.port.specs.Port.{noPort}
-use Rattle.repeater.specs.Hearing.{transmits, listens, hearingOf}
 use Rattle.burst.specs.Burst.{effectOf}
-use Rattle.repeater.specs.Hearing.{meetingOf}
 use Rattle.port.specs.Partition.{afterMeeting}
 use Rattle.port.specs.Link.{tickedAt, pulsedAt, revivedAt}
 use Rattle.burst.specs.Marks.{marksOf}
 use Rattle.management.specs.Status.{marked}
 use Rattle.port.specs.Settings.{changed}
-use Rattle.repeater.specs.Answers.{answerOf}
 use Rattle.management.specs.Status.{clearedBy}
+use Rattle.repeater.specs.declared.Repeater.{Repeater}
+use Rattle.repeater.specs.declared.Bursted.{Bursted}
+use Rattle.repeater.specs.declared.Got.{Got}
+use Rattle.repeater.specs.declared.Those.{Those}
+use Rattle.repeater.specs.declared.Those.the-variants.{Transmitting, Listening, Partitioned, Linked, Enabled}
+use Rattle.repeater.specs.Hearing.{transmits, listens, hearingOf}
+use Rattle.repeater.specs.Hearing.{meetingOf}
+use Rattle.repeater.specs.Answers.{answerOf}
 
 abbrev pub withPorts : Repeater → List Port → Repeater
 withPorts r ps = record { ports = ps; «alternate_aui» = r .«alternate_aui»; «alternate_tp» = r .«alternate_tp»; status = r .status }

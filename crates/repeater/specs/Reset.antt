@@ -3,9 +3,9 @@
 use mathlib.Core.Bool.{false}
 use lib.ListN.{replicate, set}
 use Rattle.ports.specs.Sets.{aui}
-use Rattle.repeater.specs.declared.Repeater.{Repeater}
 use Rattle.port.specs.Reset.{tpUp, auiUp}
 use Rattle.management.specs.Status.{clearStatus}
+use Rattle.repeater.specs.declared.Repeater.{Repeater}
 
 abbrev pub powerUp : Repeater
 powerUp = record { ports = set (replicate 9 tpUp) aui auiUp; «alternate_aui» = false; «alternate_tp» = false; status = clearStatus }

@@ -20,11 +20,11 @@ use Rattle.burst.specs.declared.Word.{Word}
 use Rattle.burst.specs.declared.Word.the-variants.{Nil, Rep, Jam}
 use Rattle.burst.specs.declared.Effect.{Effect}
 use Rattle.management.specs.declared.Setting.the-variants.{AlternateTp, DisableAui, DisableTp, EnableTp, LinkTestOff, LinkTestOn}
-use Rattle.repeater.specs.declared.Repeater.{Repeater}
 use Rattle.port.specs.Port.{noPort}
+use Rattle.history.specs.History.{Event, collided, clean, neither, cleared, Standing, connected, partitioned}
+use Rattle.repeater.specs.declared.Repeater.{Repeater}
 use Rattle.repeater.specs.Reset.{powerUp}
 use Rattle.repeater.specs.Repeater.{burstOf}
-use Rattle.history.specs.History.{Event, collided, clean, neither, cleared, Standing, connected, partitioned}
 use Rattle.repeater.specs.Events.{standingAt, Input, burst, pulse, tick, setting, reset, afterInputs}
 
 abbrev pub activity : ℕ → Bool → Bool → ℕ → ℕ → Burst

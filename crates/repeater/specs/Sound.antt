@@ -5,9 +5,9 @@
 use Prim.Native.Nat.{ℕ, _<_}
 use mathlib.Core.Path.{_≡_}
 use lib.ListN.{length, getD}
-use Rattle.repeater.specs.declared.Repeater.{Repeater}
 use Rattle.port.specs.Port.{noPort}
 use Rattle.port.specs.Sound.{SoundPort}
+use Rattle.repeater.specs.declared.Repeater.{Repeater}
 
 pub record Sound (r : Repeater) : Type 0 where
   pub nine : length (r .ports) ≡ 9
