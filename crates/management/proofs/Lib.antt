@@ -1,2 +1,3 @@
--- Laws of the definitions.
+-- Laws of the definitions, and the table of commands, computed.
 pub mod CommandLaws
+pub mod Listed
