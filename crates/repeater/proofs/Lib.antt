@@ -1,4 +1,5 @@
 -- Laws of the definitions, and theorems that belong to no one function.
+pub mod Computing
 pub mod MeetingLaws
 pub mod RepeaterLaws
 pub mod Kept

@@ -6,23 +6,11 @@
 --   story-told           == the events that inputs of every kind are to a port
 use mathlib.Core.Path.{_≡_, refl}
 use mathlib.Core.List.{List, map}
-use lib.Count.{ones, trailingZeros}
-use Rattle.ports.specs.Sets.{has, gather}
-use Rattle.ports.specs.Each.{each}
-use Rattle.burst.specs.Burst.{heardOf, collisionHeard, wordOf, sentTo, collidedAt, effectOf}
-use Rattle.burst.specs.Clean.{dataTo, cleanAt, reconnectingAt}
-use Rattle.port.specs.Partition.{partitioning, afterMeeting}
-use Rattle.port.specs.Link.{ticked, pulsed, revived, tickedAt, pulsedAt, revivedAt}
-use Rattle.burst.specs.Marks.{marksOf}
-use Rattle.management.specs.Status.{marked}
-use Rattle.port.specs.Settings.{changed}
 use Rattle.port.specs.Standing.{eventOf}
 use Rattle.repeater.specs.Reset.{powerUp}
-use Rattle.repeater.specs.Hearing.{transmits, listens, hearingOf}
-use Rattle.repeater.specs.Hearing.{meetingOf}
-use Rattle.repeater.specs.Repeater.{tickedAll, pulsedAll, alternateFor, partitionedAt, portAfter, followed, burstOf, changedAt, changedTp, setTo}
 use Rattle.repeater.specs.Events.{followedEvent, burstEvent, disables, setEvent, inputEvents}
 use Rattle.repeater.specs.Sheet.{Row, found, Scene, followedBy, sheet, shortcuts, links, scenes, story, told}
+use Rattle.repeater.proofs.Computing.{repeating}
 
 -- the wanted of every row
 abbrev pub Holds : List Row → Type 0
@@ -32,7 +20,7 @@ abbrev pub Followed : List Scene → Type 0
 Followed rows = map followedBy rows ≡ map (λ (w : Scene). w .wanted) rows
 
 computed : Holds sheet × Holds shortcuts × Holds links × Followed scenes × (inputEvents 0 powerUp story ≡ told)
-unfolding has gather each ones trailingZeros transmits listens heardOf hearingOf collisionHeard wordOf sentTo collidedAt effectOf dataTo cleanAt reconnectingAt meetingOf partitioning afterMeeting ticked pulsed revived tickedAt pulsedAt revivedAt marksOf marked tickedAll pulsedAll alternateFor partitionedAt portAfter followed burstOf changed changedAt changedTp setTo eventOf followedEvent burstEvent disables setEvent
+unfolding repeating eventOf followedEvent burstEvent disables setEvent
 computed = (refl, refl, refl, refl, refl)
 
 pub sheet-holds : Holds sheet
