@@ -1,7 +1,7 @@
 -- Document 01, 'Partition': what a burst is for the ports. Where 004 gives a period of 512 for reconnecting, the paper takes over 512.
 --   isJam w, isRep w         == the word is jam, is rep
 --   dataTo f i               == data, not jam, goes out to port i
---   cleanAt g f i            == the burst is clean for port i
+--   cleanAt g f i            == the burst is clean for port i, if that is a port of T; nobody asks it of another
 --   reconnectingAt g f b alternate i == it connects port i again, by the standard or the alternate algorithm, if the port is partitioned
 -- Assumes nothing.
 use Prim.Native.Nat.{ℕ}

@@ -8,6 +8,7 @@ ghost use Rattle.burst.specs.Burst.{inE, heardOf, collisionHeard, wordOf
 ghost use Rattle.burst.specs.Marks.{alone, marksOf};
 ghost use Rattle.burst.specs.Clean.{isJam, isRep, dataTo, cleanAt, reconnectingAt};
 use management::Status;
+use port::Port;
 
 // Activity from idle to idle, as a burst record has it.
 pub struct Burst {
@@ -56,9 +57,6 @@ impl Burst {
 
     // A burst longer than this many bit times trips the jabber lock-up protection.
     pub const JABBER: u32 = 65536;
-
-    // A clean burst longer than this many bit times reconnects.
-    pub const RECONNECT: u32 = 512;
 
     // E.
     pub fn active(self) -> u16
@@ -278,7 +276,7 @@ impl Effect {
     pub fn reconnecting(self, g: Hearing, b: Burst, alternate: bool) -> u16
         ensures { λ r. ⌜ r ≡ setOf (reconnectingAt g self b alternate) ⌝ }
     {
-        if Burst::RECONNECT < b.d {
+        if Port::RECONNECT < b.d {
             let clean = self.clean(g);
             if alternate {
                 return clean & self.data();

@@ -25,6 +25,7 @@ use Rattle.history.specs.History.{Event, collided, neither, cleared, Standing, 
 use Rattle.port.specs.Standing.{standingOf, eventOf}
 use Rattle.repeater.specs.Events.{standingAt, followedEvent, burstEvent, setEvent}
 use Rattle.repeater.proofs.RepeaterLaws.{those-has}
+use Rattle.port.proofs.Standing.{stays}
 use Rattle.history.proofs.Past.{Keeps, told-exactly}
 use Rattle.repeater.proofs.Events.{burst-moves, tick-moves, pulse-moves, get-moves, set-moves, reset-moves, up-connected}
 use Rattle.host.specs.declared.Host.{Host}
@@ -124,11 +125,6 @@ unfolding step-computes history happening eventAt eventOf followedEvent burstEve
 struck-by-1025 = long [] [] 1025 (lit< tt)
 
 -- ONE RECORD
-
--- what is neither leaves the standing
-stays : (s : Standing) → s ≡ afterEvent s neither
-stays (connected n) = refl
-stays partitioned = refl
 
 -- a record's event to port i, by the repeater before and after it
 abbrev eventFor : ℕ → Asked → Repeater → Repeater → Event

@@ -1,7 +1,6 @@
 -- Document 01, 'Boundary sheet', the rows that the repeater decides by itself, and 'Shortcuts that look right', as tables. A row is a list of inputs from power-up, a
 -- port, and how that port is to stand after them: connected with a count or partitioned, and whether its link passes. proofs/Sheet.antt computes every row.
---   activity      == a burst: mask, rate error flag, AUI's collision signal, duration, length of the collision; no other flag is set
---   active m d x  == such a burst as an input, with neither flag
+--   active m d x  == a burst (activity of burst/specs/Scenes) as an input: mask, duration and length of the collision, with neither flag
 --   mistimed m d  == one with rate error and no collision
 --   passing       == four link pulses: the links of TP0, TP1 and TP2 pass
 --   Row, found    == a row of a table; how its port stands
@@ -19,6 +18,7 @@ use Rattle.burst.specs.declared.Burst.{Burst}
 use Rattle.burst.specs.declared.Word.{Word}
 use Rattle.burst.specs.declared.Word.the-variants.{Nil, Rep, Jam}
 use Rattle.burst.specs.declared.Effect.{Effect}
+use Rattle.burst.specs.Scenes.{activity}
 use Rattle.management.specs.declared.Setting.the-variants.{AlternateTp, DisableAui, DisableTp, EnableTp, LinkTestOff, LinkTestOn}
 use Rattle.port.specs.Port.{noPort}
 use Rattle.history.specs.History.{Event, collided, clean, neither, cleared, Standing, connected, partitioned}
@@ -26,10 +26,6 @@ use Rattle.repeater.specs.declared.Repeater.{Repeater}
 use Rattle.repeater.specs.Reset.{powerUp}
 use Rattle.repeater.specs.Repeater.{burstOf}
 use Rattle.repeater.specs.Events.{standingAt, Input, burst, pulse, tick, setting, reset, afterInputs}
-
-abbrev pub activity : ℕ → Bool → Bool → ℕ → ℕ → Burst
-activity mask rate signal d x =
-    record { mask = mask; «rate_error» = rate; «collision_signal» = signal; «loopback_missing» = false; «sqe_test» = false; d = d; x = x }
 
 abbrev pub active : ℕ → ℕ → ℕ → Input
 active mask d x = burst (activity mask false false d x)
