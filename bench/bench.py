@@ -17,7 +17,7 @@ import tempfile
 import threading
 from pathlib import Path
 
-TESTS = Path(__file__).resolve().parent.parent / "tests"
+TESTS = Path(__file__).resolve().parent.parent / 'tests'
 sys.path.insert(0, str(TESTS))
 
 import native
@@ -85,17 +85,17 @@ def mixed_block(chooser):
     return block[:BLOCK]
 
 
-TRACES = {"ticks": tick_block, "bursts": burst_block, "host reads": host_block, "mixed": mixed_block}
+TRACES = {'ticks': tick_block, 'bursts': burst_block, 'host reads': host_block, 'mixed': mixed_block}
 
 
 def written(path, name, records):
     """A trace of exactly so many records, all links up at its beginning."""
     block = TRACES[name](random.Random(name))
-    with open(path, "wb") as file:
+    with open(path, 'wb') as file:
         left = records
         for part in (UP, *[block] * (records // BLOCK + 1)):
             part = part[:left]
-            file.write(b"".join(part))
+            file.write(b''.join(part))
             left -= len(part)
     return path
 
@@ -104,12 +104,12 @@ def written(path, name, records):
 
 def seconds(words, path):
     """The processor time of one run, so that what else the machine does weighs little."""
-    with open(path, "rb") as trace:
+    with open(path, 'rb') as trace:
         child = subprocess.Popen(words, stdin=trace, stdout=subprocess.DEVNULL)
     _, status, used = os.wait4(child.pid, 0)
     child.returncode = os.waitstatus_to_exitcode(status)
     if child.returncode != 0:
-        program.give_up(f"{words[-1]} ended with status {child.returncode}")
+        program.give_up(f'{words[-1]} ended with status {child.returncode}')
     return used.ru_utime + used.ru_stime
 
 
@@ -123,75 +123,75 @@ def best(contestants, path, rounds):
 
 
 def show(title, unit, rows):
-    print(f"\n{title}")
-    print(f"{'trace':12}{'program':>14}{'model':>14}{'ratio':>8}")
+    print(f'\n{title}')
+    print(f'{"trace":12}{"program":>14}{"model":>14}{"ratio":>8}')
     for name, ours, theirs in rows:
-        print(f"{name:12}{ours:>11.1f} {unit}{theirs:>11.1f} {unit}{ours / theirs:>8.2f}", flush=True)
+        print(f'{name:12}{ours:>11.1f} {unit}{theirs:>11.1f} {unit}{ours / theirs:>8.2f}', flush=True)
 
 
 def measure_time(contestants, folder, records, rounds):
-    empty = folder / "empty"
-    empty.write_bytes(b"")
+    empty = folder / 'empty'
+    empty.write_bytes(b'')
     begun = best(contestants, empty, rounds)
     rows = []
     for name in TRACES:
-        spent = best(contestants, written(folder / "trace", name, records), rounds)
-        ours, theirs = ((spent[who] - begun[who]) / records * 1e9 for who in ("program", "model"))
+        spent = best(contestants, written(folder / 'trace', name, records), rounds)
+        ours, theirs = ((spent[who] - begun[who]) / records * 1e9 for who in ('program', 'model'))
         rows.append((name, ours, theirs))
-    show(f"processor time a record ({records:,} records, best of {rounds}, start-up taken off)", "ns", rows)
+    show(f'processor time a record ({records:,} records, best of {rounds}, start-up taken off)', 'ns', rows)
 
 
 # ---- instructions
 
 def watched(tool, words, path):
     """What valgrind says on standard error of a run under one of its tools."""
-    with open(path, "rb") as trace:
+    with open(path, 'rb') as trace:
         done = subprocess.run(
-            ["valgrind", *tool, *words], stdin=trace, stdout=subprocess.DEVNULL, stderr=subprocess.PIPE, text=True)
+            ['valgrind', *tool, *words], stdin=trace, stdout=subprocess.DEVNULL, stderr=subprocess.PIPE, text=True)
     if done.returncode != 0:
-        program.give_up(f"valgrind ended with status {done.returncode}: {done.stderr[-500:]}")
+        program.give_up(f'valgrind ended with status {done.returncode}: {done.stderr[-500:]}')
     return done.stderr
 
 
 def counted(words, path, folder):
-    said = watched(["--tool=callgrind", f"--callgrind-out-file={folder / 'callgrind'}"], words, path)
-    return int(re.search(r"Collected : (\d+)", said).group(1))
+    said = watched(['--tool=callgrind', f'--callgrind-out-file={folder / "callgrind"}'], words, path)
+    return int(re.search(r'Collected : (\d+)', said).group(1))
 
 
 def measure_instructions(contestants, folder, empty):
     begun = {who: counted(words, empty, folder) for who, words in contestants.items()}
     rows = []
     for name in TRACES:
-        path = written(folder / "trace", name, COUNTED)
+        path = written(folder / 'trace', name, COUNTED)
         ours, theirs = (
-            (counted(contestants[who], path, folder) - begun[who]) / COUNTED for who in ("program", "model"))
+            (counted(contestants[who], path, folder) - begun[who]) / COUNTED for who in ('program', 'model'))
         rows.append((name, ours, theirs))
-    show(f"instructions a record (callgrind, {COUNTED:,} records, start-up taken off)", "  ", rows)
+    show(f'instructions a record (callgrind, {COUNTED:,} records, start-up taken off)', '  ', rows)
 
 
 # ---- stack
 
 def deepest(words, path, folder):
     """The most stack in bytes."""
-    snapshots = folder / "massif"
-    watched(["--tool=massif", "--stacks=yes", "--heap=no", "--detailed-freq=1000", f"--massif-out-file={snapshots}"], words, path)
-    return max(map(int, re.findall(r"mem_stacks_B=(\d+)", snapshots.read_text())))
+    snapshots = folder / 'massif'
+    watched(['--tool=massif', '--stacks=yes', '--heap=no', '--detailed-freq=1000', f'--massif-out-file={snapshots}'], words, path)
+    return max(map(int, re.findall(r'mem_stacks_B=(\d+)', snapshots.read_text())))
 
 
 def measure_stack(contestants, folder, empty):
-    path = written(folder / "trace", "bursts", FEW)
-    print("\nstack at its deepest: no input, and bursts")
+    path = written(folder / 'trace', 'bursts', FEW)
+    print('\nstack at its deepest: no input, and bursts')
     for who, words in contestants.items():
         none, bursts = deepest(words, empty, folder), deepest(words, path, folder)
-        print(f"{who:12}{none:>8,} B{bursts:>10,} B", flush=True)
+        print(f'{who:12}{none:>8,} B{bursts:>10,} B', flush=True)
 
 
 def measure_counts(contestants, folder):
-    if shutil.which("valgrind") is None:
-        print("\ninstructions a record, and stack: not counted, there is no valgrind on the path")
+    if shutil.which('valgrind') is None:
+        print('\ninstructions a record, and stack: not counted, there is no valgrind on the path')
         return
-    empty = folder / "empty"
-    empty.write_bytes(b"")
+    empty = folder / 'empty'
+    empty.write_bytes(b'')
     measure_instructions(contestants, folder, empty)
     measure_stack(contestants, folder, empty)
 
@@ -203,7 +203,7 @@ def peak(words, records):
 
     Read while the program waits for more: the figure that wait() hands over would count the Python that started it.
     """
-    block = b"".join(mixed_block(random.Random("memory")))
+    block = b''.join(mixed_block(random.Random('memory')))
     child = subprocess.Popen(words, bufsize=0, stdin=subprocess.PIPE, stdout=subprocess.PIPE)
 
     def feed():
@@ -218,41 +218,41 @@ def peak(words, records):
     while lines < records:
         chunk = child.stdout.read(1 << 16)
         if not chunk:
-            program.give_up(f"{words[-1]} ended after {lines} of {records} records")
-        lines += chunk.count(b"\n")
+            program.give_up(f'{words[-1]} ended after {lines} of {records} records')
+        lines += chunk.count(b'\n')
     feeder.join()
-    status = Path("/proc", str(child.pid), "status").read_text()
+    status = Path('/proc', str(child.pid), 'status').read_text()
     child.stdin.close()
     child.wait()
     child.stdout.close()
-    return int(re.search(r"VmHWM:\s*(\d+) kB", status).group(1))
+    return int(re.search(r'VmHWM:\s*(\d+) kB', status).group(1))
 
 
 def measure_memory(contestants):
-    if not Path("/proc/self/status").is_file():
-        print("\nresident memory: not measured, there is no /proc here")
+    if not Path('/proc/self/status').is_file():
+        print('\nresident memory: not measured, there is no /proc here')
         return
-    print(f"\nresident memory at its peak: ten records, and {MANY:,}")
+    print(f'\nresident memory at its peak: ten records, and {MANY:,}')
     for who, words in contestants.items():
         few, many = peak(words, 10), peak(words, MANY)
-        print(f"{who:12}{few:>8,} kB{many:>8,} kB", flush=True)
+        print(f'{who:12}{few:>8,} kB{many:>8,} kB', flush=True)
 
 
 def main():
-    parser = argparse.ArgumentParser(description="Measures a program against the model of document 01.")
-    parser.add_argument("program", nargs="?", default=str(program.PROVED), help="a path, or 'model' (default: target/bin/run)")
-    parser.add_argument("--records", type=int, default=1_000_000, help="records in each trace (default 1,000,000)")
-    parser.add_argument("--rounds", type=int, default=9, help="runs of each, of which the best counts (default 9)")
-    parser.add_argument("--copy", action="store_true", help="measure a copy compiled for this machine, as is done where it isn't x86-64")
-    parser.add_argument("--without-counts", action="store_true", help="no counting of instructions and stack")
-    parser.add_argument("--without-memory", action="store_true", help="no measuring of memory")
+    parser = argparse.ArgumentParser(description='Measures a program against the model of document 01.')
+    parser.add_argument('program', nargs='?', default=str(program.PROVED), help="a path, or 'model' (default: target/bin/run)")
+    parser.add_argument('--records', type=int, default=1_000_000, help='records in each trace (default 1,000,000)')
+    parser.add_argument('--rounds', type=int, default=9, help='runs of each, of which the best counts (default 9)')
+    parser.add_argument('--copy', action='store_true', help="measure a copy compiled for this machine, as is done where it isn't x86-64")
+    parser.add_argument('--without-counts', action='store_true', help='no counting of instructions and stack')
+    parser.add_argument('--without-memory', action='store_true', help='no measuring of memory')
     words = parser.parse_args()
-    contestants = {"program": program.named(words.program), "model": [str(program.model())]}
-    with tempfile.TemporaryDirectory(prefix="bench.") as name:
+    contestants = {'program': program.named(words.program), 'model': [str(program.model())]}
+    with tempfile.TemporaryDirectory(prefix='bench.') as name:
         folder = Path(name)
-        if words.copy or len(contestants["program"]) > 1:
-            print("Measured is a copy of the proved program, compiled for this machine.")
-            contestants["program"] = [str(native.copy(folder))]
+        if words.copy or len(contestants['program']) > 1:
+            print('Measured is a copy of the proved program, compiled for this machine.')
+            contestants['program'] = [str(native.copy(folder))]
         measure_time(contestants, folder, words.records, words.rounds)
         if not words.without_counts:
             measure_counts(contestants, folder)
@@ -260,5 +260,5 @@ def main():
             measure_memory(contestants)
 
 
-if __name__ == "__main__":
+if __name__ == '__main__':
     main()

@@ -13,68 +13,68 @@ from pathlib import Path
 
 import program
 
-NAME = "run"
+NAME = 'run'
 
-LEFT_OUT = """
+LEFT_OUT = '''
 unsigned long rattle_arg_count(void) { return 1; }
 long rattle_arg(unsigned long i, char *to, unsigned long n) { (void)i; (void)to; (void)n; return -1; }
 int rattle_open_to_read(const char *path) { (void)path; return -1; }
 int rattle_errno(void) { return 0; }
 void rattle_set_errno(int e) { (void)e; }
-"""
+'''
 
-KEEPER = """#!/bin/sh
+KEEPER = '''#!/bin/sh
 for word in "$@"; do case $word in *.bc) cp "$word" "{kept}" && chmod u+rw "{kept}" ;; esac; done
 exec "{clang}" "$@"
-"""
+'''
 
 
 def stands_on(name):
     """The crates that a crate is listed with."""
-    for line in (program.ROOT / "crates.txt").read_text().splitlines():
-        head, _, rest = line.partition("#")[0].partition(":")
+    for line in (program.ROOT / 'crates.txt').read_text().splitlines():
+        head, _, rest = line.partition('#')[0].partition(':')
         if head.strip() == name:
             return rest.split()
-    program.give_up(f"crates.txt has no line for {name}")
+    program.give_up(f'crates.txt has no line for {name}')
 
 
 def done(words, folder):
     ran = subprocess.run([str(word) for word in words], cwd=folder, capture_output=True, text=True)
     if ran.returncode != 0:
-        program.give_up(f"{Path(words[0]).name} made no copy to measure: {(ran.stderr or ran.stdout)[-500:]}")
+        program.give_up(f'{Path(words[0]).name} made no copy to measure: {(ran.stderr or ran.stdout)[-500:]}')
 
 
 def copy(folder):
     """Makes the copy in this folder and tells its path."""
-    rt = shutil.which("rt")
+    rt = shutil.which('rt')
     if rt is None:
-        program.give_up("there is no rt on the path to make a copy with")
-    kit = Path(os.environ.get("RATTLE_HOME") or Path(rt).resolve().parent.parent)
+        program.give_up('there is no rt on the path to make a copy with')
+    kit = Path(os.environ.get('RATTLE_HOME') or Path(rt).resolve().parent.parent)
     machine = platform.machine()
-    own = kit / "on" / machine
-    tools, kept = folder / "tools", folder / "kept.bc"
-    (tools / "bin").mkdir(parents=True)
-    libraries = own / "toolchain" / "lib"
-    (tools / "lib").symlink_to(libraries if libraries.is_dir() else kit / "toolchain" / "lib")
-    for tool in (own / "toolchain" / "bin").iterdir():
-        (tools / "bin" / tool.name).symlink_to(tool)
-    clang = own / "toolchain" / "bin" / "clang"
-    keeper = tools / "bin" / "clang"
+    own = kit / 'on' / machine
+    tools, kept = folder / 'tools', folder / 'kept.bc'
+    (tools / 'bin').mkdir(parents=True)
+    libraries = own / 'toolchain' / 'lib'
+    (tools / 'lib').symlink_to(libraries if libraries.is_dir() else kit / 'toolchain' / 'lib')
+    for tool in (own / 'toolchain' / 'bin').iterdir():
+        (tools / 'bin' / tool.name).symlink_to(tool)
+    clang = own / 'toolchain' / 'bin' / 'clang'
+    keeper = tools / 'bin' / 'clang'
     keeper.unlink()
     keeper.write_text(KEEPER.format(kept=kept, clang=clang))
     keeper.chmod(0o755)
-    target = program.ROOT / "target"
-    words = [own / "bin" / "rattle", "build", "--crate-name", NAME, f"crates/{NAME}/src/main.rt"]
-    for crate in ["std", *stands_on(NAME)]:
-        built = target / "rlib" if (program.ROOT / "crates" / crate).is_dir() else own / "rlib"
-        words += ["--extern", f"{crate}={built / crate}.rlib"]
-    for built in (target / "rlib", own / "rlib"):
-        words += ["-L", f"dependency={built}"]
-    words += ["--antt-project", kit / "logic" / "antt-project.json", "--logic-built", own / "logic-built"]
-    done([*words, "--toolchain", tools, "-o", folder / "proved.o"], program.ROOT)
-    compiled, stubs, out = folder / "copy.o", folder / "stubs.c", folder / "copy"
+    target = program.ROOT / 'target'
+    words = [own / 'bin' / 'rattle', 'build', '--crate-name', NAME, f'crates/{NAME}/src/main.rt']
+    for crate in ['std', *stands_on(NAME)]:
+        built = target / 'rlib' if (program.ROOT / 'crates' / crate).is_dir() else own / 'rlib'
+        words += ['--extern', f'{crate}={built / crate}.rlib']
+    for built in (target / 'rlib', own / 'rlib'):
+        words += ['-L', f'dependency={built}']
+    words += ['--antt-project', kit / 'logic' / 'antt-project.json', '--logic-built', own / 'logic-built']
+    done([*words, '--toolchain', tools, '-o', folder / 'proved.o'], program.ROOT)
+    compiled, stubs, out = folder / 'copy.o', folder / 'stubs.c', folder / 'copy'
     stubs.write_text(LEFT_OUT)
-    done([clang, f"--target={machine}-unknown-linux-gnu", "-Wno-override-module", "-ffunction-sections", "-O3", "-fPIE",
-          "-c", "-x", "ir", kept, "-o", compiled], folder)
-    done(["cc", "-pie", compiled, stubs, "-o", out, "-Wl,--gc-sections"], folder)
+    done([clang, f'--target={machine}-unknown-linux-gnu', '-Wno-override-module', '-ffunction-sections', '-O3', '-fPIE',
+          '-c', '-x', 'ir', kept, '-o', compiled], folder)
+    done(['cc', '-pie', compiled, stubs, '-o', out, '-Wl,--gc-sections'], folder)
     return out

@@ -21,20 +21,20 @@ import generate
 import program
 import record as rec
 
-KEPT = program.ROOT / "target" / "compare"
+KEPT = program.ROOT / 'target' / 'compare'
 PATIENCE = 300  # seconds until a program that hangs is ended
 ENOUGH = 20  # failed traces, after which the rest is left out
 JUDGED = 500  # traces, from which on everything must be reached
 
 # What only high counters reach, and so only traces with a start file.
-STARTED = ("wrap.", "read.bytes4.place2", "read.bytes4.place3")
+STARTED = ('wrap.', 'read.bytes4.place2', 'read.bytes4.place3')
 
-Outcome = collections.namedtuple("Outcome", "lines message status")
+Outcome = collections.namedtuple('Outcome', 'lines message status')
 
 
 def pieces(data, seed):
     """The data cut at odd places: small pieces first, then larger ones."""
-    chooser = random.Random(f"pieces {seed}")
+    chooser = random.Random(f'pieces {seed}')
     at = 0
     while at < len(data):
         if at < 4000:
@@ -71,7 +71,7 @@ def run(words, parts):
         guard.cancel()
         child.stdout.close()
         errors.seek(0)
-        return Outcome(b"".join(chunks), errors.read().decode(errors="replace"), status)
+        return Outcome(b''.join(chunks), errors.read().decode(errors='replace'), status)
 
 
 def record_at(data, place):
@@ -81,7 +81,7 @@ def record_at(data, place):
 def selection(data, place):
     """For a D access: which register the C writes before it have selected."""
     if record_at(data, place)[:1] not in (bytes([rec.D_WRITE]), bytes([rec.D_READ])):
-        return ""
+        return ''
     p = r = 0
     for earlier in range(place):
         piece = record_at(data, earlier)
@@ -90,7 +90,7 @@ def selection(data, place):
         elif piece == rec.C_WRITES[piece[13]]:
             top, number = piece[13] >> 5, piece[13] & 31
             p, r = (number if top == 0 else p), (number if top == 7 else r)
-    return f", of P {p} R {r}"
+    return f', of P {p} R {r}'
 
 
 class Comparison:
@@ -111,34 +111,34 @@ class Comparison:
             self.passed += 1
         else:
             self.failed += 1
-            print(f"FAILED {name}: {fault}", flush=True)
+            print(f'FAILED {name}: {fault}', flush=True)
 
     def keep(self, name, data, start):
         KEPT.mkdir(parents=True, exist_ok=True)
-        trace = KEPT / f"{name}.trace"
+        trace = KEPT / f'{name}.trace'
         trace.write_bytes(data)
-        again = f"< {trace}"
+        again = f'< {trace}'
         if start is not None:
-            (KEPT / f"{name}.start").write_bytes(start)
-            again = f"{KEPT / name}.start {again}"
-        return f"kept; to run it again: PROGRAM {again}"
+            (KEPT / f'{name}.start').write_bytes(start)
+            again = f'{KEPT / name}.start {again}'
+        return f'kept; to run it again: PROGRAM {again}'
 
     def difference(self, data, got, want):
         """The first record at which the program and the model part, in words."""
-        ours, theirs = got.lines.split(b"\n"), want.split(b"\n")
+        ours, theirs = got.lines.split(b'\n'), want.split(b'\n')
         place = next((at for at, pair in enumerate(zip(ours, theirs)) if pair[0] != pair[1]), min(len(ours), len(theirs)))
         piece = record_at(data, place)
-        said = [line.decode(errors="replace") if line else "nothing" for line in
-                (ours[place] if place < len(ours) else b"", theirs[place] if place < len(theirs) else b"")]
-        lines = [f"record {place + 1}: {rec.words(piece) if piece else 'there is none'}{selection(data, place)}",
-                 f"program: {said[0]}", f"model:   {said[1]}"]
+        said = [line.decode(errors='replace') if line else 'nothing' for line in
+                (ours[place] if place < len(ours) else b'', theirs[place] if place < len(theirs) else b'')]
+        lines = [f'record {place + 1}: {rec.words(piece) if piece else "there is none"}{selection(data, place)}',
+                 f'program: {said[0]}', f'model:   {said[1]}']
         for earlier in range(max(place - 3, 0), place):
-            lines.append(f"before it, {earlier + 1}: {rec.words(record_at(data, earlier))}")
+            lines.append(f'before it, {earlier + 1}: {rec.words(record_at(data, earlier))}')
         if got.status != 0:
-            lines.append(f"the program ended with status {got.status}")
+            lines.append(f'the program ended with status {got.status}')
         if got.message:
             lines.append(f"the program's message: {got.message[:500].strip()}")
-        return "\n  ".join(lines)
+        return '\n  '.join(lines)
 
     # ---- kinds of checks
 
@@ -146,13 +146,13 @@ class Comparison:
         """Both on the same records. Where the input is not cut into pieces it is written at once."""
         words = []
         if start is not None:
-            path = self.folder / "start"
+            path = self.folder / 'start'
             path.write_bytes(start)
             words = [str(path)]
-        reported = ["--reached"] if with_reached else []
+        reported = ['--reached'] if with_reached else []
         want = run(self.model + reported + words, [data])
         if want.status != 0:
-            program.give_up(f"the model failed on {name}: {want.message[-500:]}")
+            program.give_up(f'the model failed on {name}: {want.message[-500:]}')
         for line in want.message.splitlines():
             _, thing, times = line.split()
             self.reached[thing] += int(times)
@@ -160,18 +160,18 @@ class Comparison:
         self.records += len(data) // rec.SIZE
         fault = None
         if got.lines != want.lines or got.status != 0:
-            fault = f"{self.difference(data, got, want.lines)}\n  {self.keep(name, data, start)}"
+            fault = f'{self.difference(data, got, want.lines)}\n  {self.keep(name, data, start)}'
         self.tell(name, fault)
 
     def sample(self):
-        for name, words in (("program", self.program), ("model", self.model)):
-            got = run(words, pieces(rec.SAMPLE, "sample"))
+        for name, words in (('program', self.program), ('model', self.model)):
+            got = run(words, pieces(rec.SAMPLE, 'sample'))
             fault = None if got.lines == rec.SAMPLE_LINES else self.difference(rec.SAMPLE, got, rec.SAMPLE_LINES)
             self.tell(f"document 01's sample, {name}", fault)
 
     def nothing(self):
         got = run(self.program, [])
-        self.tell("empty input", None if got.lines == b"" and got.status == 0 else f"printed {got.lines[:80]}")
+        self.tell('empty input', None if got.lines == b'' and got.status == 0 else f'printed {got.lines[:80]}')
 
     def model_tests(self):
         done = subprocess.run([str(program.model_tests())], capture_output=True, text=True)
@@ -179,10 +179,10 @@ class Comparison:
 
     def line(self, child):
         """What a program prints, up to the end of a line or of its patience."""
-        answer = b""
-        while not answer.endswith(b"\n"):
+        answer = b''
+        while not answer.endswith(b'\n'):
             ready, _, _ = select.select([child.stdout], [], [], PATIENCE)
-            more = child.stdout.read(1 << 16) if ready else b""
+            more = child.stdout.read(1 << 16) if ready else b''
             if not more:
                 break
             answer += more
@@ -193,62 +193,62 @@ class Comparison:
         data = generate.trace(1, 1000)
         data = data[: len(data) - len(data) % rec.SIZE]
         want = run(self.model, [data]).lines.splitlines()
-        for name, words in (("program", self.program), ("model", self.model)):
+        for name, words in (('program', self.program), ('model', self.model)):
             child = subprocess.Popen(words, bufsize=0, stdin=subprocess.PIPE, stdout=subprocess.PIPE)
             fault = None
             for at, line in enumerate(want):
                 child.stdin.write(record_at(data, at))
                 answer = self.line(child)
-                if answer != line + b"\n":
-                    fault = f"record {at + 1} was answered with {answer[:80]}, not with {line}"
+                if answer != line + b'\n':
+                    fault = f'record {at + 1} was answered with {answer[:80]}, not with {line}'
                     break
             child.stdin.close()
             if fault:
                 child.kill()
             child.wait()
             child.stdout.close()
-            self.tell(f"record by record, {name}", fault)
+            self.tell(f'record by record, {name}', fault)
 
     def bad_starts(self):
         """A start file of another size, none at all, a folder: a message, and nothing is run."""
         for size in (0, 1, 529, 531, 1060):
-            (self.folder / f"{size}").write_bytes(bytes(size))
-        for name in ("0", "1", "529", "531", "1060", "missing", "."):
-            for who, words in (("program", self.program), ("model", self.model)):
+            (self.folder / f'{size}').write_bytes(bytes(size))
+        for name in ('0', '1', '529', '531', '1060', 'missing', '.'):
+            for who, words in (('program', self.program), ('model', self.model)):
                 got = run([*words, str(self.folder / name)], [rec.SAMPLE])
                 fault = None
-                if got.lines != b"":
-                    fault = f"the records were run: {got.lines[:80]}"
+                if got.lines != b'':
+                    fault = f'the records were run: {got.lines[:80]}'
                 elif not got.message:
-                    fault = "there was no message on standard error"
+                    fault = 'there was no message on standard error'
                 self.tell(f"start file '{name}', {who}", fault)
 
     def seeds(self):
         many = self.words.traces
         for turn in range(many):
             if self.failed >= ENOUGH:
-                print(f"compare: {turn} of {many} traces; stopped after {self.failed} failures", flush=True)
+                print(f'compare: {turn} of {many} traces; stopped after {self.failed} failures', flush=True)
                 break
             seed = self.words.first + turn
             start = None if self.words.without_start else generate.start(seed)
-            self.compare(f"seed-{seed}", generate.trace(seed, self.words.records), start, whole=seed % 4 == 3)
+            self.compare(f'seed-{seed}', generate.trace(seed, self.words.records), start, whole=seed % 4 == 3)
             if (turn + 1) % 100 == 0 or turn + 1 == many:
-                print(f"compare: {turn + 1} of {many} traces, {self.records:,} records, {self.failed} failed", flush=True)
+                print(f'compare: {turn + 1} of {many} traces, {self.records:,} records, {self.failed} failed', flush=True)
 
     def long(self):
         """Over a million records, for the record's number and for what gathers up."""
         block = generate.trace(7, 1500)[: 1000 * rec.SIZE]
-        self.compare("long", block * 1001, with_reached=False, whole=True)
+        self.compare('long', block * 1001, with_reached=False, whole=True)
 
     def all_reached(self):
-        print(f"compare: {sum(times > 0 for times in self.reached.values())} of {len(self.reached)} things reached")
+        print(f'compare: {sum(times > 0 for times in self.reached.values())} of {len(self.reached)} things reached')
         if self.words.traces < JUDGED:
-            print(f"compare: not judged, with fewer than {JUDGED} traces")
+            print(f'compare: not judged, with fewer than {JUDGED} traces')
             return
         missing = sorted(thing for thing, times in self.reached.items() if times == 0)
         if self.words.without_start:
             missing = [thing for thing in missing if not thing.startswith(STARTED)]
-        self.tell("what was reached", None if not missing else "never: " + " ".join(missing))
+        self.tell('what was reached', None if not missing else 'never: ' + ' '.join(missing))
 
     def everything(self):
         self.model_tests()
@@ -258,29 +258,29 @@ class Comparison:
         if not self.words.without_start:
             self.bad_starts()
         for name in generate.SHEETS:
-            self.compare(f"sheet-{name}", generate.sheet(name))
+            self.compare(f'sheet-{name}', generate.sheet(name))
             if not self.words.without_start:
-                self.compare(f"sheet-{name}-started", generate.sheet(name), generate.start(1))
-        print(f"compare: sample, lock-step and sheets done, {self.failed} failed", flush=True)
+                self.compare(f'sheet-{name}-started', generate.sheet(name), generate.start(1))
+        print(f'compare: sample, lock-step and sheets done, {self.failed} failed', flush=True)
         self.seeds()
         self.long()
         self.all_reached()
-        print(f"{self.passed} passed, {self.failed} failed")
+        print(f'{self.passed} passed, {self.failed} failed')
         return 1 if self.failed else 0
 
 
 def main():
-    parser = argparse.ArgumentParser(description="Compares a program with the model of document 01.")
-    parser.add_argument("program", nargs="?", default=str(program.PROVED), help="a path, or 'model' (default: target/bin/run)")
-    parser.add_argument("--traces", type=int, default=800, help="how many seeds (default 800)")
-    parser.add_argument("--records", type=int, default=3500, help="about how many records a trace (default 3500)")
-    parser.add_argument("--first", type=int, default=0, help="the first seed (default 0)")
-    parser.add_argument("--without-start", action="store_true", help="no start files, so no wrapping of counters")
+    parser = argparse.ArgumentParser(description='Compares a program with the model of document 01.')
+    parser.add_argument('program', nargs='?', default=str(program.PROVED), help="a path, or 'model' (default: target/bin/run)")
+    parser.add_argument('--traces', type=int, default=800, help='how many seeds (default 800)')
+    parser.add_argument('--records', type=int, default=3500, help='about how many records a trace (default 3500)')
+    parser.add_argument('--first', type=int, default=0, help='the first seed (default 0)')
+    parser.add_argument('--without-start', action='store_true', help='no start files, so no wrapping of counters')
     words = parser.parse_args()
-    with tempfile.TemporaryDirectory(prefix="compare.") as folder:
+    with tempfile.TemporaryDirectory(prefix='compare.') as folder:
         status = Comparison(words, Path(folder)).everything()
     sys.exit(status)
 
 
-if __name__ == "__main__":
+if __name__ == '__main__':
     main()

@@ -36,17 +36,17 @@ def start(seed):
     """The seed's start file (530 bytes), or None where the counters begin at zero."""
     if seed % 3 == 0:
         return None
-    chooser = random.Random(f"start {seed}")
+    chooser = random.Random(f'start {seed}')
 
     def counter():
         return chooser.choice(COUNTER_EDGES) if chooser.random() < 0.7 else chooser.getrandbits(32)
 
     parts = []
     for _ in range(9):
-        parts.append(struct.pack("<13I", *(counter() for _ in range(13))))
+        parts.append(struct.pack('<13I', *(counter() for _ in range(13))))
         parts.append(chooser.randbytes(6) if chooser.random() < 0.7 else bytes(6))
-    parts.append(struct.pack("<2I", counter(), counter()))
-    return b"".join(parts)
+    parts.append(struct.pack('<2I', counter(), counter()))
+    return b''.join(parts)
 
 
 class Maker:
@@ -693,7 +693,7 @@ class Maker:
             self.select(31, 14)
             self.add(rec.D_READ_RECORD)
         tail = self.pick([rec.TICK_RECORD, rec.burst(1, 100), bytes(32), self.random.randbytes(32)])
-        return b"".join(self.records) + tail[: self.seed % 32]
+        return b''.join(self.records) + tail[: self.seed % 32]
 
 
 def damaged(record, chooser):
@@ -811,11 +811,11 @@ def refusals_sheet():
 
 
 SHEETS = {
-    "registers": registers_sheet,
-    "commands": commands_sheet,
-    "kinds": kinds_sheet,
-    "damage": damage_sheet,
-    "refusals": refusals_sheet,
+    'registers': registers_sheet,
+    'commands': commands_sheet,
+    'kinds': kinds_sheet,
+    'damage': damage_sheet,
+    'refusals': refusals_sheet,
 }
 
 
@@ -824,27 +824,27 @@ def trace(seed, size):
 
 
 def sheet(name):
-    return b"".join(SHEETS[name]())
+    return b''.join(SHEETS[name]())
 
 
 def main():
-    parser = argparse.ArgumentParser(description="Writes a trace of records to standard output.")
-    parser.add_argument("seed", type=int, nargs="?", help="the seed")
-    parser.add_argument("size", type=int, nargs="?", help="about how many records")
-    parser.add_argument("--start", metavar="FILE", help="write the seed's start file here (nothing if it has none)")
-    parser.add_argument("--sheet", choices=SHEETS, help="a fixed sweep in place of a seed")
+    parser = argparse.ArgumentParser(description='Writes a trace of records to standard output.')
+    parser.add_argument('seed', type=int, nargs='?', help='the seed')
+    parser.add_argument('size', type=int, nargs='?', help='about how many records')
+    parser.add_argument('--start', metavar='FILE', help="write the seed's start file here (nothing if it has none)")
+    parser.add_argument('--sheet', choices=SHEETS, help='a fixed sweep in place of a seed')
     words = parser.parse_args()
     if words.sheet:
         sys.stdout.buffer.write(sheet(words.sheet))
         return
     if words.seed is None or words.size is None:
-        parser.error("give a seed and a size, or --sheet NAME")
+        parser.error('give a seed and a size, or --sheet NAME')
     content = start(words.seed)
     if words.start and content is not None:
-        with open(words.start, "wb") as file:
+        with open(words.start, 'wb') as file:
             file.write(content)
     sys.stdout.buffer.write(trace(words.seed, words.size))
 
 
-if __name__ == "__main__":
+if __name__ == '__main__':
     main()

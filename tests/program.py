@@ -1,75 +1,69 @@
 """How to start a program on this machine, and how to build the model."""
 
-import os
 import platform
 import shutil
 import subprocess
 import sys
 from pathlib import Path
 
-ROOT = Path(__file__).resolve().parent.parent
-PROVED = ROOT / "target" / "bin" / "run"
-SOURCE = ROOT / "tests" / "model" / "model.rs"
-BUILT = ROOT / "target" / "model"
+from checks import TOP as ROOT
+
+import roverivet
+
+PROVED = roverivet.PROGRAM
+SOURCE = ROOT / 'tests' / 'model' / 'model.rs'
+BUILT = ROOT / 'target' / 'model'
 
 ELF_X86_64 = 62
 
 
 def give_up(reason):
-    sys.exit(f"{Path(sys.argv[0]).name}: {reason}")
+    sys.exit(f'{Path(sys.argv[0]).name}: {reason}')
 
 
 def is_emulated(path):
     """The toolchain compiles for x86-64 alone; other machines need its emulator."""
-    with open(path, "rb") as file:
+    with open(path, 'rb') as file:
         head = file.read(20)
-    x86 = head[:4] == b"\x7fELF" and int.from_bytes(head[18:20], "little") == ELF_X86_64
-    return x86 and platform.machine() != "x86_64"
+    x86 = head[:4] == b'\x7fELF' and int.from_bytes(head[18:20], 'little') == ELF_X86_64
+    return x86 and platform.machine() != 'x86_64'
 
 
 def command(path):
-    """The words that start the program at this path."""
+    """The words that start the program at this path, with the client's loader in front where it must be emulated."""
     path = Path(path).resolve()
     if not path.is_file():
-        give_up(f"there is no program {path}; prove and build it first, or name another one")
-    if not is_emulated(path):
-        return [str(path)]
-    rt = shutil.which("rt")
-    if rt is None:
-        give_up(f"{path.name} is for x86-64, and there is no rt on the path to find its emulator beside")
-    kit = Path(os.environ.get("RATTLE_HOME") or Path(rt).resolve().parent.parent)
-    tools = kit / "on" / platform.machine() / "toolchain"
-    emulator = tools / "bin" / "qemu-x86_64"
-    if not emulator.is_file():
-        give_up(f"{path.name} is for x86-64, and the kit beside rt has no emulator for {platform.machine()}")
-    loader = tools / "lib" / "ld-linux-x86-64.so.2"
-    return [str(emulator), str(loader), "--library-path", str(tools / "lib"), str(path)]
+        give_up(f'there is no program {path}; prove and build it first, or name another one')
+    try:
+        return [*(roverivet.loader() if is_emulated(path) else []), str(path)]
+    except roverivet.Missing as error:
+        give_up(error)
 
 
 def rust(source, out, *words):
     """Compiles one Rust file, if what was compiled before is older than it."""
-    rustc = shutil.which("rustc")
+    rustc = shutil.which('rustc')
     if rustc is None:
-        give_up("there is no rustc on the path to build the model with")
+        give_up('there is no rustc on the path to build the model with')
     if out.is_file() and out.stat().st_mtime > source.stat().st_mtime:
         return out
     out.parent.mkdir(parents=True, exist_ok=True)
-    done = subprocess.run([rustc, "--edition", "2021", *words, "-o", str(out), str(source)])
+    done = subprocess.run([rustc, '--edition', '2021', *words, '-o', str(out), str(source)])
     if done.returncode != 0:
-        give_up(f"rustc refused {source.name}")
+        give_up(f'rustc refused {source.name}')
     return out
 
 
 def model():
     """The model, built as it is measured: optimised."""
-    return rust(SOURCE, BUILT / "model", "-O")
+    return rust(SOURCE, BUILT / 'model', '-O')
 
 
 def model_tests():
     """The model's own tests, as a program."""
-    return rust(SOURCE, BUILT / "paper", "--test")
+    return rust(SOURCE, BUILT / 'paper', '--test')
 
 
 def named(word):
     """The program that a user names: a path, or the word 'model'."""
-    return [str(model())] if word == "model" else command(word)
+    return [str(model())] if word == 'model' else command(word)

@@ -8,7 +8,7 @@ AUI = 1 << 8
 SIZE = 32
 
 # kind, flags, mask, d, n, k, written byte, bytes 14-15, c, x, source address, bytes 30-31
-LAYOUT = struct.Struct("<BBHIIBBHII6sH")
+LAYOUT = struct.Struct('<BBHIIBBHII6sH')
 NOBODY = bytes(6)
 
 
@@ -42,38 +42,38 @@ def must_be_zero(kind, at):
 
 
 def ports(mask):
-    names = [f"TP{place}" for place in range(8) if mask >> place & 1]
+    names = [f'TP{place}' for place in range(8) if mask >> place & 1]
     if mask & AUI:
-        names.append("AUI")
-    names += [f"bit {place}" for place in range(9, 16) if mask >> place & 1]
-    return " ".join(names) or "no port"
+        names.append('AUI')
+    names += [f'bit {place}' for place in range(9, 16) if mask >> place & 1]
+    return ' '.join(names) or 'no port'
 
 
-FLAG_WORDS = ["FCS bad", "rate error", "AUI collision signal", "loopback missing", "SQE Test seen"]
-KIND_WORDS = ["", "burst", "link pulse", "tick", "C write", "D write", "C read", "D read", "reset"]
+FLAG_WORDS = ['FCS bad', 'rate error', 'AUI collision signal', 'loopback missing', 'SQE Test seen']
+KIND_WORDS = ['', 'burst', 'link pulse', 'tick', 'C write', 'D write', 'C read', 'D read', 'reset']
 
 
 def words(record):
     """One line that says what a record holds."""
     if len(record) != SIZE:
-        return f"a piece of {len(record)} bytes: {record.hex(' ')}"
+        return f'a piece of {len(record)} bytes: {record.hex(" ")}'
     kind, flags, mask, d, n, k, written, _, c, x, source, _ = LAYOUT.unpack(record)
     if not 1 <= kind <= 8:
-        return f"unknown kind {kind}: {record.hex(' ')}"
+        return f'unknown kind {kind}: {record.hex(" ")}'
     said = [KIND_WORDS[kind]]
     if kind == BURST:
-        said += [f"on {ports(mask)}", f"d {d}", f"n {n}", f"k {k}", f"c {c}", f"x {x}", f"source {source.hex(':')}"]
+        said += [f'on {ports(mask)}', f'd {d}', f'n {n}', f'k {k}', f'c {c}', f'x {x}', f'source {source.hex(":")}']
         said += [word for place, word in enumerate(FLAG_WORDS) if flags >> place & 1]
     if kind == PULSE:
-        said.append(f"on {ports(mask)}")
+        said.append(f'on {ports(mask)}')
     if kind in (C_WRITE, D_WRITE):
-        said.append(f"{written:02x}h")
+        said.append(f'{written:02x}h')
     stray = [at for at in range(1, SIZE) if record[at] & must_be_zero(kind, at)]
-    said += [f"byte {at} is {record[at]:02x}h" for at in stray]
-    return ", ".join(said)
+    said += [f'byte {at} is {record[at]:02x}h' for at in stray]
+    return ', '.join(said)
 
 # Document 01's sample: its records and its ten lines.
-SAMPLE = b"".join([
+SAMPLE = b''.join([
     *[PULSES[3]] * 4,
     burst(1, 1000, 64),
     C_WRITES[0x10],
@@ -82,7 +82,7 @@ SAMPLE = b"".join([
     burst(3, 600, c=100, x=300),
     LAYOUT.pack(TICK, 0, 1, 0, 0, 0, 0, 0, 0, 0, NOBODY, 0),
 ])
-SAMPLE_LINES = b"""\
+SAMPLE_LINES = b'''\
 1 ok
 2 ok
 3 ok
@@ -93,4 +93,4 @@ SAMPLE_LINES = b"""\
 8 val 01
 9 jam 103
 10 ref 8
-"""
+'''
