@@ -1,5 +1,5 @@
 #!/usr/bin/env -S python3 -B
-"""Holds README.md, docs/MAP.md and docs/PASS.md to the repository.
+"""Holds README.md, docs/MAP.md, docs/PASS.md and docs/changes/ to the repository.
 
     tests/documents.py               every name is there, promises and edits match, README's commands print what it says
     tests/documents.py --functions   prints the public functions as docs/PASS.md has to list them
@@ -10,8 +10,13 @@ In docs/MAP.md and docs/PASS.md whatever stands in backquotes is a name, in one 
     record/must-fail/order_2_and_1        an edit that the check must refuse
     traces/sample                         a trace of traces/LIST
     tests/compare.py                      any file or folder, from the top
+
+The notes in docs/changes/ are read in the same way, but for two things. A name alone, such as kindNumber or
+Query::Mjlp, has to occur in some crate. And what a table has in a column headed 'before' is not looked up.
 """
 
+import collections
+import functools
 import os
 import re
 import subprocess
@@ -24,12 +29,16 @@ import roverivet
 from tools import build
 
 MAP, PASS, README = TOP / 'docs' / 'MAP.md', TOP / 'docs' / 'PASS.md', TOP / 'README.md'
+NOTES = TOP / 'docs' / 'changes'
 STATEMENTS = TOP / 'crates' / 'pass' / 'specs' / 'Pass.antt'
 KEYS = ['demand', 'sentence', 'section', 'statement', 'theorem', 'instance', 'edits', 'says not']
 UNFINISHED = 'PENDING'
+GONE = 'before'
 SYSTEM = ('/dev', '/proc', '/usr/bin/env', '/bin/sh')
 IN_CRATE = re.compile(r'(\w+)/(specs|proofs|src)/([\w/]+): (.+)')
 EDIT = re.compile(r'(\w+)/must-fail/(\w+)')
+EDIT_NAME = re.compile(r'[a-z][a-z0-9]*(?:_[a-z0-9]+)*')
+ALONE = re.compile(r"[\w'-]+(?:::[\w'-]+)*")
 ABSOLUTE = re.compile(r'(?:^|[\s"\'`(=:!])(/[A-Za-z][\w.-]*(?:/[\w.-]+)*)')
 HOST = re.compile(r'https?://(?!www\.w3\.org/)[\w.-]+')
 
@@ -55,6 +64,20 @@ def lines_of(page):
             inside = not inside
         elif not inside:
             yield number, line
+
+
+def present(page):
+    """(number, line) outside blocks of code, without the cells that a table has below the heading 'before'."""
+    gone = None
+    for number, line in lines_of(page):
+        if not line.startswith('|'):
+            gone = None
+            yield number, line
+            continue
+        cells = line.split('|')
+        if gone is None:
+            gone = [at for at, cell in enumerate(cells) if cell.strip().lower() == GONE]
+        yield number, '|'.join(cell for at, cell in enumerate(cells) if at not in gone)
 
 
 def names_in(text):
@@ -95,17 +118,36 @@ def missing(name):
     return None if (TOP / name).exists() else 'there is no such file'
 
 
+@functools.cache
+def written():
+    """Every word of the crates' code, definitions and proofs, remarks left out."""
+    found = set()
+    for path in sorted(TOP.glob('crates/*/*/**/*')):
+        if path.suffix in ('.rt', '.antt'):
+            remark = r'//.*' if path.suffix == '.rt' else r'--.*'
+            found |= set(re.findall(r"[\w'-]+", re.sub(remark, '', path.read_text())))
+    return found
+
+
+def missing_now(name):
+    """Why a name in a note names nothing, or None."""
+    if not ALONE.fullmatch(name) or (TOP / name).exists():
+        return missing(name)
+    absent = [word for word in name.split('::') if word not in written()]
+    return f'no crate has {", ".join(absent)}' if absent else None
+
+
 def named(checks):
-    tried = 0
-    for page in (MAP, PASS):
-        for number, line in lines_of(page):
+    notes, tried = sorted(NOTES.glob('*.md')), 0
+    for page, lines, lookup in [(MAP, lines_of, missing), (PASS, lines_of, missing), *((note, present, missing_now) for note in notes)]:
+        for number, line in lines(page):
             if UNFINISHED in line:
                 continue
             for name in names_in(line):
                 tried += 1
-                reason = missing(name)
+                reason = lookup(name)
                 checks.check(reason is None, f'{shown(page)}:{number}: {name}', reason)
-    print(f'{tried} names in docs/MAP.md and docs/PASS.md')
+    print(f'{tried} names in docs/MAP.md, docs/PASS.md and {len(notes)} pages of docs/changes')
 
 
 def finished(checks):
@@ -184,17 +226,26 @@ def promises(checks):
     print(f'{len(listed)} promises, {len(kinds)} statements of Pass.antt')
 
 
+def told_edits(page):
+    """(crate, edit) of every edit that a page names."""
+    return {found.groups() for _, line in lines_of(page) for name in names_in(line) if (found := EDIT.fullmatch(name))}
+
+
 def edits(checks):
-    """The edits of the crate pass are those of docs/PASS.md; every edit says first what it breaks."""
-    there = {path.stem for path in (TOP / 'crates' / 'pass' / 'must-fail').glob('*.edit')}
-    told = {found[2] for _, line in lines_of(PASS) for name in names_in(line)
-            if (found := EDIT.fullmatch(name)) and found[1] == 'pass'}
-    same(checks, told, there, 'docs/PASS.md has the edits of the crate pass')
+    """Every edit is named in docs/PASS.md (all of the crate pass are) or docs/MAP.md, has a name of its own, and says first what it breaks."""
     every = sorted(TOP.glob('crates/*/must-fail/*.edit'))
+    there = {(path.parents[1].name, path.stem) for path in every}
+    same(checks, {edit for crate, edit in told_edits(PASS) if crate == 'pass'}, {edit for crate, edit in there if crate == 'pass'},
+         'docs/PASS.md has the edits of the crate pass')
+    untold = sorted(f'{crate}/must-fail/{edit}' for crate, edit in there - told_edits(PASS) - told_edits(MAP))
+    checks.check(not untold, 'docs/PASS.md or docs/MAP.md names every edit', *untold)
+    for name, times in sorted(collections.Counter(edit for _, edit in there).items()):
+        checks.check(times == 1, f'{name} is the name of one edit', *(shown(path) for path in every if path.stem == name))
+        checks.check(EDIT_NAME.fullmatch(name), f'{name} is in lower case, its words joined by _')
     for path in every:
         first = path.read_text().splitlines()[0]
         checks.check(first.startswith('# ') and len(first) > 20, f'{shown(path)}: the first line says what it breaks')
-    print(f'{len(every)} edits, {len(there)} of them of the crate pass')
+    print(f'{len(every)} edits, {sum(crate == "pass" for crate, _ in there)} of them of the crate pass')
 
 
 # ---- public functions

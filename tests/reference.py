@@ -38,7 +38,7 @@ def numbers(cell):
 
 def registers():
     """{(P, R): (bytes, access)} by the page."""
-    access = {'read': 'r', 'write': 'w', 'both': 'rw', 'read, cleared by it': 'r'}
+    access = {'read': 'r', 'write': 'w', 'both': 'rw', 'read, which clears it': 'r'}
     return {(bank, number): (int(size), access[words]) for banks, places, _, size, words in rows('Registers')
             for bank in numbers(banks) for number in numbers(places)}
 

@@ -5,8 +5,7 @@
     Transmit Collisions = 7
     Total Octets = 9
 
-What is not named is 0. The file itself has 530 bytes: for TP0 to TP7 and AUI thirteen counters of four
-bytes, R 0 to R 12, least significant first, and six address bytes; then Transmit Collisions, Total Octets.
+What is not named is 0. docs/REFERENCE.md, 'Start files', has the bytes of the file itself.
 """
 
 import re

@@ -6,10 +6,8 @@
 //!
 //!     model [--reached] [START] < TRACE
 //!
-//! START: 530 bytes, the counters and addresses at power-up (all zero without it). For each of TP0 to TP7 and
-//! AUI the thirteen counters R 0 to R 12, then the six address bytes; at the end Transmit Collisions and Total
-//! Octets. Counters are 32 bits, little-endian. `--reached`: a line 'reached NAME TIMES' on standard error for
-//! each thing that a trace can reach, at the end.
+//! START: the counters and addresses at power-up, all zero without it (docs/REFERENCE.md, 'Start files').
+//! `--reached`: a line 'reached NAME TIMES' on standard error for each thing that a trace can reach, at the end.
 
 pub mod chip {
     pub const PORTS: usize = 9;
