@@ -1,11 +1,11 @@
 #!/usr/bin/env -S python3 -B
-"""Compares crates/commands/stdout, which the program `commands` must print, with what commands_expected.py works out. The last line is 'N passed, M failed'."""
+"""Compares crates/every_command/stdout, which the program `every_command` must print, with what commands_expected.py works out. The last line is 'N passed, M failed'."""
 import pathlib
 import sys
 
 import commands_expected
 
-STORED = pathlib.Path(__file__).resolve().parent.parent / 'crates' / 'commands' / 'stdout'
+STORED = pathlib.Path(__file__).resolve().parent.parent / 'crates' / 'every_command' / 'stdout'
 
 
 def wrongs():

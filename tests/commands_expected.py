@@ -1,7 +1,7 @@
 #!/usr/bin/env python3
-"""What the program `commands` must print, worked out from document 01 and the manuals' command table, not from a run of it.
+"""What the program `every_command` must print, worked out from document 01 and the manuals' command table, not from a run of it.
 
-    python3 tests/commands_expected.py    prints it; crates/commands/stdout holds it
+    python3 tests/commands_expected.py    prints it; crates/every_command/stdout holds it
     python3 tests/commands.py             compares the two
 
 The table below is document 01's section 'Commands', bit pattern by bit pattern. MANUAL is the same table as the manuals print it, in hexadecimal (000, table 3-1; 004,

@@ -7,6 +7,7 @@
 In docs/MAP.md and docs/PASS.md whatever stands in backquotes is a name, in one of these forms:
 
     record/specs/Record: place, kinds     definitions, theorems, functions or types in a file of a crate
+    record/specs/Record                   such a file
     record/must-fail/order_2_and_1        an edit that the check must refuse
     traces/sample                         a trace of traces/LIST
     tests/compare.py                      any file or folder, from the top
@@ -35,7 +36,7 @@ KEYS = ['demand', 'sentence', 'section', 'statement', 'theorem', 'instance', 'ed
 UNFINISHED = 'PENDING'
 GONE = 'before'
 SYSTEM = ('/dev', '/proc', '/usr/bin/env', '/bin/sh')
-IN_CRATE = re.compile(r'(\w+)/(specs|proofs|src)/([\w/]+): (.+)')
+IN_CRATE = re.compile(r'(\w+)/(specs|proofs|src)/([\w/]+)(?:: (.+))?')
 EDIT = re.compile(r'(\w+)/must-fail/(\w+)')
 EDIT_NAME = re.compile(r'[a-z][a-z0-9]*(?:_[a-z0-9]+)*')
 ALONE = re.compile(r"[\w'-]+(?:::[\w'-]+)*")
@@ -107,7 +108,7 @@ def missing(name):
         path = TOP / 'crates' / crate / folder / (file + ('.rt' if folder == 'src' else '.antt'))
         if not path.is_file():
             return f'there is no {shown(path)}'
-        absent = [word for word in words.split(', ') if not is_there(path, word)]
+        absent = [word for word in words.split(', ') if not is_there(path, word)] if words else []
         return f'{shown(path)} has no {", ".join(absent)}' if absent else None
     found = EDIT.fullmatch(name)
     if found:
@@ -190,7 +191,7 @@ def line_of(path, name):
 def file_of(name):
     """The file and the first word of a name in a crate, or None."""
     found = IN_CRATE.fullmatch(name)
-    if not found:
+    if not found or not found[4]:
         return None
     crate, folder, file, words = found.groups()
     path = TOP / 'crates' / crate / folder / (file + ('.rt' if folder == 'src' else '.antt'))

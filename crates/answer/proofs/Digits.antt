@@ -15,7 +15,8 @@ use borrow.Author.Tests.{lt-ltb, le-ltb, ltb-true, ltb-false}
 use lib.Dec.{ltb}
 use lib.ListN.{length, length-append}
 use Rattle.answer.specs.Numerals.{digit, numeral, decimal}
-use Rattle.answer.specs.Put.{padded, twoBytes, fourBytes}
+use Rattle.spelling.specs.Spelling.{leastFirst, spelt}
+use Rattle.answer.specs.Put.{padded}
 
 -- what is enough for a numeral gives the same numeral
 enough : (f g n : ℕ) → n < f → n < g → numeral f (ltb n 10) n ≡ numeral g (ltb n 10) n
@@ -114,19 +115,26 @@ decimal-two-groups n h =
     ∙ decimal-group n (omega arith)
 
 -- bytes, spelt as one number
-two-spelt : (a b : ℕ) → a < 256 → b < 256 → twoBytes (a + 256 * b) ≡ a ∷ b ∷ []
+two-spelt : (a b : ℕ) → a < 256 → b < 256 → leastFirst 2 (a + 256 * b) ≡ a ∷ b ∷ []
 two-spelt a b ha hb = same-two (omega arith) (omega arith)
 
-pub four-spelt : (a b c d : ℕ) → a < 256 → b < 256 → c < 256 → d < 256 → fourBytes (a + 256 * b + 65536 * c + 16777216 * d) ≡ a ∷ b ∷ c ∷ d ∷ []
+pub four-spelt : (a b c d : ℕ) → a < 256 → b < 256 → c < 256 → d < 256 → leastFirst 4 (spelt (a ∷ b ∷ c ∷ d ∷ [])) ≡ a ∷ b ∷ c ∷ d ∷ []
 four-spelt a b c d ha hb hc hd = same-four (omega arith) (omega arith) (omega arith) (omega arith)
 
+-- the bytes as the code takes them out of a number
+pub two-least : (w : ℕ) → w % 256 ∷ w / 256 % 256 ∷ [] ≡ leastFirst 2 w
+two-least w = refl
+
+pub four-least : (w : ℕ) → w % 256 ∷ w / 256 % 256 ∷ w / 65536 % 256 ∷ w / 16777216 % 256 ∷ [] ≡ leastFirst 4 w
+four-least w = same-four refl refl (omega arith) (omega arith)
+
 -- a pair of digits, spelt as one number: t is the first digit, and 256 v - 2559 t is t + 256 (v - 10 t)
-pub two-digits-spelt : (v t : ℕ) → v < 100 → t ≡ v / 10 → twoBytes (0x3030 + 256 * v - 2559 * t) ≡ padded 2 v
+pub two-digits-spelt : (v t : ℕ) → v < 100 → t ≡ v / 10 → leastFirst 2 (0x3030 + 256 * v - 2559 * t) ≡ padded 2 v
 two-digits-spelt v t h e =
     let w : 0x3030 + 256 * v - 2559 * t ≡ digit t + 256 * digit (v - 10 * t) = omega arith in
     let first : t ≡ v / 10 % 10 = omega arith in
     let second : v - 10 * t ≡ v % 10 = omega arith in
-    ap twoBytes w ∙ two-spelt (digit t) (digit (v - 10 * t)) (omega arith) (omega arith) ∙ same-two (ap digit first) (ap digit second)
+    ap (leastFirst 2) w ∙ two-spelt (digit t) (digit (v - 10 * t)) (omega arith) (omega arith) ∙ same-two (ap digit first) (ap digit second)
 
 pub three-digits : (v f : ℕ) → v < 1000 → f ≡ v / 100 → digit f ∷ padded 2 (v - 100 * f) ≡ padded 3 v
 three-digits v f h e =
@@ -140,19 +148,20 @@ last v f s u e eu = omega arith
 
 -- two pairs: f is the first and s the second, t and u are their first digits
 spelt-pairs : (v f s t u : ℕ) → v ≡ 100 * f + s → f < 100 → s < 100 → t ≡ f / 10 → u ≡ s / 10
-    → fourBytes (0x30303030 + 256 * (f + 65536 * s) - 2559 * (t + 65536 * u)) ≡ padded 4 v
+    → leastFirst 4 (0x30303030 + 256 * (f + 65536 * s) - 2559 * (t + 65536 * u)) ≡ padded 4 v
 spelt-pairs v f s t u e hf hs et eu =
-    let w : 0x30303030 + 256 * (f + 65536 * s) - 2559 * (t + 65536 * u) ≡ digit t + 256 * digit (f - 10 * t) + 65536 * digit u + 16777216 * digit (s - 10 * u) = omega arith in
+    let w : 0x30303030 + 256 * (f + 65536 * s) - 2559 * (t + 65536 * u) ≡ spelt (digit t ∷ digit (f - 10 * t) ∷ digit u ∷ digit (s - 10 * u) ∷ []) =
+    omega arith in
     let tenth : v / 10 ≡ 10 * f + u = omega arith in
     let hundredth : v / 10 / 10 ≡ f = omega arith in
     let first : t ≡ v / 10 / 10 / 10 % 10 = rw hundredth (omega arith) in
     let second : f - 10 * t ≡ v / 10 / 10 % 10 = rw hundredth (omega arith) in
     let third : u ≡ v / 10 % 10 = rw tenth (omega arith) in
     let fourth : s - 10 * u ≡ v % 10 = last v f s u e eu in
-    ap fourBytes w
+    ap (leastFirst 4) w
     ∙ four-spelt (digit t) (digit (f - 10 * t)) (digit u) (digit (s - 10 * u)) (omega arith) (omega arith) (omega arith) (omega arith)
     ∙ same-four (ap digit first) (ap digit second) (ap digit third) (ap digit fourth)
 
 pub four-digits-spelt : (v f t u : ℕ) → v < 10000 → f ≡ v / 100 → t ≡ f / 10 → u ≡ (v - 100 * f) / 10
-    → fourBytes (0x30303030 + 256 * (f + 65536 * (v - 100 * f)) - 2559 * (t + 65536 * u)) ≡ padded 4 v
+    → leastFirst 4 (0x30303030 + 256 * (f + 65536 * (v - 100 * f)) - 2559 * (t + 65536 * u)) ≡ padded 4 v
 four-digits-spelt v f t u h e et eu = spelt-pairs v f (v - 100 * f) t u (omega arith) (omega arith) (omega arith) et eu

@@ -46,7 +46,8 @@ tail-length-le (Value b) h = omega (arith, value-length b)
 tail-length-le (Refused k) h = omega (arith, refused-length k, decimal-length-le 2 k (omega arith))
 
 -- what `put_tail` shows of a case
-pub tail-put : {old new : List ℕ} {at r : ℕ} {a b : Answer} → b ≡ a → numberOf a < 256 → Put old at (tailOf a) new r → Put old at (tailOf b) new r × (r ≤ at + 9)
+pub tail-put : {old new : List ℕ} {at r : ℕ} {a b : Answer} → b ≡ a → numberOf a < 256 → Put old at (tailOf a) new r
+    → Put old at (tailOf b) new r × (r ≤ at + 9)
 tail-put {a = a} e h p = (put-as (sym (ap tailOf e)) p, omega (arith, p .next, tail-length-le a h))
 
 tail-length-ge : (a : Answer) → 4 ≤ length (tailOf a)

@@ -63,7 +63,8 @@ unfolding numeral decimal saidOf tailOf lineOf
 lengths = (refl, refl)
 
 -- the sample is read back: no numeral begins with a zero, and there are as many lines as answers
-pub read-back : (readAs 10 (decimal 1234567) ≡ 1234567) × (readAs 16 (hex 3 0x10fa) ≡ 0xfa) × (getD (decimal 1000) 0 0 ≡ 49) × (newlines (linesOf 1 answers) ≡ 10)
+pub read-back : (readAs 10 (decimal 1234567) ≡ 1234567) × (readAs 16 (hex 3 0x10fa) ≡ 0xfa)
+    × (getD (decimal 1000) 0 0 ≡ 49) × (newlines (linesOf 1 answers) ≡ 10)
 unfolding numeral decimal readBehind saidOf tailOf lineOf linesOf newlines answers
 read-back = (refl, refl, refl, refl)
 

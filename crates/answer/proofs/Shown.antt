@@ -115,7 +115,9 @@ apart-by-lines n [] (b ∷ those) e =
 apart-by-lines n (a ∷ these) [] e =
     let h : suc (length these) ≡ 0 = sym (lines-newlines n (a ∷ these)) ∙ ap newlines e ∙ lines-newlines n [] in absurd (omega arith)
 apart-by-lines n (a ∷ these) (b ∷ those) e =
-    let k = cut-at (decimal n ++ space ∷ saidOf a) (decimal n ++ space ∷ saidOf b) (linesOf (n + 1) these) (linesOf (n + 1) those) (number-none n a) (number-none n b) (sym (parted n a these) ∙ e ∙ parted n b those) in
+    let k =
+    cut-at (decimal n ++ space ∷ saidOf a) (decimal n ++ space ∷ saidOf b) (linesOf (n + 1) these) (linesOf (n + 1) those) (number-none n a)
+    (number-none n b) (sym (parted n a these) ∙ e ∙ parted n b those) in
     let t : space ∷ saidOf a ≡ space ∷ saidOf b = cancel (decimal n) (space ∷ saidOf a) (space ∷ saidOf b) (k .0) in
     let s : saidOf a ≡ saidOf b = cc in
     let u : shownOf a ≡ shownOf b = said-tells a b s in

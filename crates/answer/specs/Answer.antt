@@ -1,5 +1,5 @@
 -- Document 01, 'Numbers turned away with' and 'Forms to follow': the paper's number and values for each case of an answer.
--- Settles what a refusal returns: its number, no output ports and value 0; every other answer has the number 0.
+-- Settles that a refusal carries its number and nothing beside it, and that an answer which is none carries the number 0.
 --   numberOf a  == the number that the record was turned away with
 --   outputsOf a == the mask of the output ports
 --   byteOf a    == the value

@@ -3,9 +3,10 @@ ghost use mathlib.Core.Path.{_≡_};
 ghost use mathlib.Core.List.{[], _∷_};
 ghost use Prim.Native.Nat.{_+_, _*_, _/_, _≤_, _<_};
 ghost use lib.ListN.{length};
+ghost use Rattle.spelling.specs.Spelling.{leastFirst};
 ghost use Rattle.answer.specs.Numerals.{decimal, hex};
 ghost use Rattle.answer.specs.Line.{space, named, tailOf, lineOf};
-ghost use Rattle.answer.specs.Put.{Put, WrittenLine, padded, twoBytes, fourBytes};
+ghost use Rattle.answer.specs.Put.{Put, WrittenLine, room, longestLine, padded};
 use burst::Word;
 
 // What a record is answered with.
@@ -20,8 +21,10 @@ pub enum Answer {
     Refused(u8),
 }
 
-// The bytes that have to be left where a line is put.
-const ROOM: usize = 32;
+impl Answer {
+    // The bytes that have to be left where a line is put.
+    pub const ROOM: usize = 32;
+}
 
 // The hexadecimal digits.
 const GLYPHS: [u8; 16] = [
@@ -43,13 +46,13 @@ const GLYPHS: [u8; 16] = [
     b'f',
 ];
 
-// Puts the line of record `number` into `out`, from `at` on, and returns the place behind it. Where fewer than 32 bytes are left
-// from `at` on, nothing is written and the place is `at`.
+// Puts the line of record `number` into `out`, from `at` on, and returns the place behind it. Where less than `Answer::ROOM` is
+// left from `at` on, nothing is written and the place is `at`.
 pub fn put_line(out: &mut [u8], at: usize, number: u64, answer: Answer) -> usize
     ensures { λ r. ⌜ WrittenLine (now (out .entry)) at number answer (now (out .exit)) r ⌝ }
 {
     if at <= out.len() {
-        if ROOM <= out.len() - at {
+        if Answer::ROOM <= out.len() - at {
             return put_whole(out, at, number, answer);
         }
     }
@@ -58,9 +61,9 @@ pub fn put_line(out: &mut [u8], at: usize, number: u64, answer: Answer) -> usize
 
 // The line, where there is room for it.
 fn put_whole(out: &mut [u8], at: usize, number: u64, answer: Answer) -> usize
-    requires { ⌜ at + 32 ≤ length (now out) ⌝ }
+    requires { ⌜ at + room ≤ length (now out) ⌝ }
     ensures { λ r. ⌜ Put (now (out .entry)) at (lineOf number answer) (now (out .exit)) r ⌝ }
-    ensures { λ r. ⌜ r ≤ at + 29 ⌝ }
+    ensures { λ r. ⌜ r ≤ at + longestLine ⌝ }
 {
     let next = put_decimal(out, at, number);
     put_tail(out, next, answer)
@@ -255,20 +258,13 @@ fn put_text(out: &mut [u8], at: usize, a: u8, b: u8, c: u8, d: u8) -> usize
     requires { ⌜ at + 4 ≤ length (now out) ⌝ }
     ensures { λ r. ⌜ Put (now (out .entry)) at (a ∷ b ∷ c ∷ d ∷ []) (now (out .exit)) r ⌝ }
 {
-    put_four_bytes(out, at, spell(a, b, c, d))
-}
-
-// Four bytes as a number, the first the least significant.
-fn spell(a: u8, b: u8, c: u8, d: u8) -> u32
-    ensures { λ r. ⌜ r ≡ a + 256 * b + 65536 * c + 16777216 * d ⌝ }
-{
-    (a as u32) + 256 * (b as u32) + 65536 * (c as u32) + 16777216 * (d as u32)
+    put_four_bytes(out, at, spelling::four(a, b, c, d))
 }
 
 // The four bytes of a number, the least significant first: the compiler makes one store of them.
 fn put_four_bytes(out: &mut [u8], at: usize, spelt: u32) -> usize
     requires { ⌜ at + 4 ≤ length (now out) ⌝ }
-    ensures { λ r. ⌜ Put (now (out .entry)) at (fourBytes spelt) (now (out .exit)) r ⌝ }
+    ensures { λ r. ⌜ Put (now (out .entry)) at (leastFirst 4 spelt) (now (out .exit)) r ⌝ }
 {
     out[at] = (spelt % 256) as u8;
     out[at + 1] = (spelt / 256 % 256) as u8;
@@ -280,7 +276,7 @@ fn put_four_bytes(out: &mut [u8], at: usize, spelt: u32) -> usize
 // The two bytes of a number, the least significant first.
 fn put_two_bytes(out: &mut [u8], at: usize, spelt: u32) -> usize
     requires { ⌜ at + 2 ≤ length (now out) ⌝ }
-    ensures { λ r. ⌜ Put (now (out .entry)) at (twoBytes spelt) (now (out .exit)) r ⌝ }
+    ensures { λ r. ⌜ Put (now (out .entry)) at (leastFirst 2 spelt) (now (out .exit)) r ⌝ }
 {
     out[at] = (spelt % 256) as u8;
     out[at + 1] = (spelt / 256 % 256) as u8;

@@ -1,3 +1,7 @@
--- Laws of the credits.
+-- Laws of what is kept of the nine ports, for the crates above; and of the credits.
+pub mod Computing
 pub mod CreditLaws
 pub mod OneClass
+pub mod Sums
+pub mod NineLaws
+pub mod OctetCheck

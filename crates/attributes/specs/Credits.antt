@@ -1,56 +1,62 @@
--- Document 01, 'Burst', the paragraph on credits, and the register list of 'Host registers' for the counters' numbers. Where RFC 1516 gives 74 to 82 bit times for a
--- short event the paper takes under 78; for a late event, of 480 to 565, over 512; for a data rate mismatch, of 552 to 565, over 552.
---   classOf b             == the register R of the one class that a single heard port's burst without collision falls in
---   sameAddress s a       == two addresses are the same, byte by byte
---   Share                 == what part one port has in a burst; shareOf says which
---   creditsOf s b         == the thirteen credits, in the order of the registers
---   creditedAt ..         == a port's attributes after the burst
---   changedOf ..          == the port whose last source address a readable frame changes, as a set
---   octetsOf, transmitCollisionsOf == what Total Octets and Transmit Collisions are credited with
+-- Document 01, 'Burst', the paragraph on credits. Where RFC 1516 gives 74 to 82 bit times for a short event the paper takes under 78; for a late
+-- event, of 480 to 565, over 512; for a data rate mismatch, of 552 to 565, over 552.
+--   Met                 == a burst as the repeater met it: H, the single heard port or nobody, whether it is a collision for the credits, and the
+--                          ports that it partitioned
+--   classOf burst       == the register of the one class that a single heard port's burst without collision falls in
+--   sameAddress s a     == two addresses are the same, byte by byte
+--   Due                 == what a burst is credited with, worked out once: dueOf
+--   Share               == the part that one port has in it: shareOf
+--   creditFor share burst r == the credit of the counter of register r; creditsOf lists all thirteen
+--   creditOf due burst i r  == the same for port i; frameAt due i == it gets a readable frame
+--   creditedAll due burst source nine == all nine ports' attributes after the burst
+--   SingleHeard met, Consistent due   == the single port, where there is one, is heard; an address changes at no other port
 -- Assumes nothing.
-use Prim.Native.Nat.{ℕ, _+_, _%_, _^_}
-use mathlib.Core.Bool.{Bool, true, false, cond, not, _&&_, _||_}
-use mathlib.Core.List.{List, [], _∷_}
+use Prim.Native.Nat.{ℕ, _+_, _%_, _^_, _<_}
+use mathlib.Core.Path.{_≡_}
+use mathlib.Core.Bool.{Bool, true, cond, not, _&&_, _||_}
+use mathlib.Core.List.{List}
 use lib.Dec.{eqb, ltb}
 use lib.ListN.{getD, replicate}
-use Rattle.ports.specs.Sets.{has, setOf}
+use Rattle.ports.specs.Sets.{portCount, nobody, has, setOf}
 use Rattle.ports.specs.Each.{each}
 use Rattle.record.specs.declared.Burst.{Burst}
-use Rattle.burst.specs.declared.Heard.{Heard}
-use Rattle.burst.specs.declared.Heard.the-variants.{Nothing, One, More}
-use Rattle.burst.specs.declared.Hearing.{Hearing}
-use Rattle.burst.specs.declared.Effect.{Effect}
-use Rattle.burst.specs.Marks.{alone}
+use Rattle.burst.specs.Marks.{jabberAbove}
 use Rattle.attributes.specs.declared.Attributes.{Attributes}
+use Rattle.attributes.specs.declared.Nine.{Nine}
+use Rattle.attributes.specs.declared.Met.{Met}
+use Rattle.attributes.specs.declared.Due.{Due}
 use Rattle.attributes.specs.declared.Share.{Share}
+use Rattle.attributes.specs.Nine.{readableFrames, readableOctets, fcsErrors, alignmentErrors, framesTooLong, shortEvents, runts}
+use Rattle.attributes.specs.Nine.{collisions, lateEvents, veryLongEvents, rateMismatches, autoPartitions, addressChanges, counterCount}
+use Rattle.attributes.specs.Nine.{addressOf}
 
--- the registers of the classes
-abbrev pub readable : ℕ
-readable = 0
+-- in bit times: a burst of fewer is a short event
+abbrev pub shortBelow : ℕ
+shortBelow = 78
 
-abbrev pub fcsErrors : ℕ
-fcsErrors = 2
+-- octets of the shortest and of the longest frame
+abbrev pub shortest : ℕ
+shortest = 64
 
-abbrev pub alignmentErrors : ℕ
-alignmentErrors = 3
+abbrev pub longest : ℕ
+longest = 1518
 
-abbrev pub framesTooLong : ℕ
-framesTooLong = 4
+-- in bit times: a collision that begins after more is late
+abbrev pub lateAbove : ℕ
+lateAbove = 512
 
-abbrev pub shortEvents : ℕ
-shortEvents = 5
-
-abbrev pub runts : ℕ
-runts = 6
+-- in bit times: a burst of more with a rate error is a data rate mismatch
+abbrev pub mismatchAbove : ℕ
+mismatchAbove = 552
 
 -- the first of these in this order
 unfoldable pub classOf : Burst → ℕ
-classOf b =
-    cond (ltb (b .d) 78) shortEvents
-    (cond (ltb (b .n) 64) runts
-    (cond (ltb 1518 (b .n)) framesTooLong
-    (cond (b .«fcs_bad») (cond (ltb 0 (b .k)) alignmentErrors fcsErrors)
-    readable)))
+classOf burst =
+    cond (ltb (burst .d) shortBelow) shortEvents
+    (cond (ltb (burst .n) shortest) runts
+    (cond (ltb longest (burst .n)) framesTooLong
+    (cond (burst .«fcs_bad») (cond (ltb 0 (burst .k)) alignmentErrors fcsErrors)
+    readableFrames)))
 
 unfoldable pub sameAddress : List ℕ → List ℕ → Bool
 sameAddress s a =
@@ -61,76 +67,93 @@ sameAddress s a =
     && eqb (getD s 4 0) (getD a 4 0)
     && eqb (getD s 5 0) (getD a 5 0)
 
-abbrev pub noAttributes : Attributes
-noAttributes = record { counters = replicate 13 0; address = replicate 6 0 }
+-- the port that the class goes to: in a collision it goes to none
+unfoldable pub classPort : Met → ℕ
+classPort met = cond (met .collision) nobody (met .single)
 
--- the single heard port, where there is no collision
-abbrev pub single : Hearing → Effect → ℕ → Bool
-single g f i = alone (g .heard) i && not (f .collision)
+-- a readable frame is credited to that port
+abbrev pub framed : ℕ → ℕ → Bool
+framed single class = ltb single portCount && eqb class readableFrames
 
--- the single heard port's readable frame has another source address than its last
-unfoldable pub newcomer : ℕ → Effect → Burst → List ℕ → List Attributes → Bool
-newcomer p f b source nine =
-    not (f .collision) && eqb (classOf b) readable && not (sameAddress source (getD nine p noAttributes .address))
+-- the port whose last source address a readable frame changes, as a set
+unfoldable pub changedBy : Nine → Bool → ℕ → List ℕ → ℕ
+changedBy nine frame single source = cond (frame && not (sameAddress source (addressOf nine single))) (setOf (λ i. eqb i single)) 0
 
-unfoldable pub changedOf : Heard → Effect → Burst → List ℕ → List Attributes → ℕ
-changedOf Nothing f b source nine = 0
-changedOf (One p) f b source nine = cond (newcomer p f b source nine) (setOf (λ i. eqb i p)) 0
-changedOf More f b source nine = 0
+unfoldable pub dueOf : Nine → Met → Burst → List ℕ → Due
+dueOf nine met burst source =
+    let single : ℕ = classPort met in
+    let class : ℕ = classOf burst in
+    record {
+      heard = met .heard;
+      single = single;
+      collision = met .collision;
+      class = class;
+      cut = met .cut;
+      changed = changedBy nine (framed single class) single source;
+      octets = cond (framed single class) (burst .n) 0;
+    }
 
--- of ports partitioned by the burst (cut) and ports whose address it changes
-unfoldable pub shareOf : Hearing → Effect → ℕ → ℕ → ℕ → Share
-shareOf g f cut changed i =
-    record { heard = has (g .h) i; single = single g f i; collision = f .collision && has (g .h) i; cut = has cut i; changed = has changed i }
+unfoldable pub shareOf : Due → ℕ → Share
+shareOf due i = record {
+  heard = has (due .heard) i;
+  single = eqb i (due .single);
+  collision = due .collision && has (due .heard) i;
+  class = due .class;
+  cut = has (due .cut) i;
+  changed = has (due .changed) i;
+}
 
 abbrev pub one : Bool → ℕ
 one b = cond b 1 0
 
-abbrev pub inClass : Share → Burst → ℕ → Bool
-inClass s b r = s .single && eqb (classOf b) r
+abbrev pub inClass : Share → ℕ → Bool
+inClass share r = share .single && eqb (share .class) r
 
+unfoldable pub creditFor : Share → Burst → ℕ → ℕ
+creditFor share burst r =
+    cond (eqb r readableFrames) (one (inClass share readableFrames))
+    (cond (eqb r readableOctets) (cond (inClass share readableFrames) (burst .n) 0)
+    (cond (eqb r fcsErrors) (one (inClass share fcsErrors))
+    (cond (eqb r alignmentErrors) (one (inClass share alignmentErrors))
+    (cond (eqb r framesTooLong) (one (inClass share framesTooLong))
+    (cond (eqb r shortEvents) (one (inClass share shortEvents))
+    (cond (eqb r runts) (one (inClass share runts))
+    (cond (eqb r collisions) (one (share .collision))
+    (cond (eqb r lateEvents) (one (share .collision && ltb lateAbove (burst .c)))
+    (cond (eqb r veryLongEvents) (one (share .heard && ltb jabberAbove (burst .d)))
+    (cond (eqb r rateMismatches) (one (share .single && burst .«rate_error» && ltb mismatchAbove (burst .d)))
+    (cond (eqb r autoPartitions) (one (share .cut))
+    (cond (eqb r addressChanges) (one (share .changed))
+    0))))))))))))
+
+-- by register
 unfoldable pub creditsOf : Share → Burst → List ℕ
-creditsOf s b =
-    one (inClass s b readable)
-    ∷ cond (inClass s b readable) (b .n) 0
-    ∷ one (inClass s b fcsErrors)
-    ∷ one (inClass s b alignmentErrors)
-    ∷ one (inClass s b framesTooLong)
-    ∷ one (inClass s b shortEvents)
-    ∷ one (inClass s b runts)
-    ∷ one (s .collision)
-    ∷ one (s .collision && ltb 512 (b .c))
-    ∷ one (s .heard && ltb 65536 (b .d))
-    ∷ one (s .single && b .«rate_error» && ltb 552 (b .d))
-    ∷ one (s .cut)
-    ∷ one (s .changed)
-    ∷ []
+creditsOf share burst = each {A = ℕ} (λ r none. creditFor share burst r) (replicate counterCount 0)
+
+unfoldable pub creditOf : Due → Burst → ℕ → ℕ → ℕ
+creditOf due burst i r = creditFor (shareOf due i) burst r
+
+unfoldable pub frameAt : Due → ℕ → Bool
+frameAt due i = inClass (shareOf due i) readableFrames
 
 -- counters wrap at 2^32
 unfoldable pub counted : List ℕ → List ℕ → List ℕ
-counted credits counters = each (λ r c. (c + getD credits r 0) % 2 ^ 32) counters
+counted credits counters = each (λ r counter. (counter + getD credits r 0) % 2 ^ 32) counters
 
 unfoldable pub creditedWith : Share → Burst → List ℕ → Attributes → Attributes
-creditedWith s b source a =
-    record { counters = counted (creditsOf s b) (a .counters); address = cond (inClass s b readable) source (a .address) }
+creditedWith share burst source port =
+    record { counters = counted (creditsOf share burst) (port .counters); address = cond (inClass share readableFrames) source (port .address) }
 
 -- a port that has no part in the burst keeps what it has
-unfoldable pub creditedAt : Hearing → Effect → ℕ → ℕ → Burst → List ℕ → ℕ → Attributes → Attributes
-creditedAt g f cut changed b source i a =
-    cond (has (g .h) i || has cut i) (creditedWith (shareOf g f cut changed i) b source a) a
+unfoldable pub creditedAt : Due → Burst → List ℕ → ℕ → Attributes → Attributes
+creditedAt due burst source i port = cond (has (due .heard) i || has (due .cut) i) (creditedWith (shareOf due i) burst source port) port
 
-abbrev pub isOne : Heard → Bool
-isOne Nothing = false
-isOne (One p) = true
-isOne More = false
+unfoldable pub creditedAll : Due → Burst → List ℕ → Nine → Nine
+creditedAll due burst source nine = record { ports = each (creditedAt due burst source) (nine .ports) }
 
-abbrev pub isMore : Heard → Bool
-isMore Nothing = false
-isMore (One p) = false
-isMore More = true
+abbrev pub SingleHeard : Met → Type 0
+SingleHeard met = met .single < portCount → has (met .heard) (met .single) ≡ true
 
-unfoldable pub octetsOf : Hearing → Effect → Burst → ℕ
-octetsOf g f b = cond (isOne (g .heard) && not (f .collision) && eqb (classOf b) readable) (b .n) 0
-
-unfoldable pub transmitCollisionsOf : Hearing → ℕ
-transmitCollisionsOf g = one (isMore (g .heard))
+pub record Consistent (due : Due) : Type 0 where
+  pub single-heard : due .single < portCount → has (due .heard) (due .single) ≡ true
+  pub changed-single : (i : ℕ) → has (due .changed) i ≡ true → i ≡ due .single

@@ -1,2 +1,6 @@
--- What a burst is credited with.
+-- What is kept of the nine ports, what a burst is credited with, and the octet check.
+pub mod Nine
 pub mod Credits
+pub mod OneClass
+pub mod Octets
+pub mod Sums

@@ -1,2 +1,2 @@
--- Laws of the block, and what it comes to where there is room for all.
+-- Laws of the block, turn by turn.
 pub mod BlockLaws

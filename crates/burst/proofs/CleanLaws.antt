@@ -5,7 +5,7 @@ use mathlib.Core.Bool.{Bool, true, false, not, _&&_, _||_, and-comm}
 use native.Mathlib.Omega.{arith}
 use lib.Bits.{bitAnd, bitOr, or-lt, and-le-l}
 use Rattle.ports.specs.Sets.{has, setOf, without}
-use Rattle.ports.proofs.Sets.{has-and, has-or, has-none, has-gather, has-without, is-gather, gather-lt, gather-same}
+use Rattle.ports.proofs.Sets.{has-and, has-or, has-none, has-gather, has-without, is-gather, gather-lt}
 use Rattle.burst.specs.declared.Hearing.{Hearing}
 use Rattle.burst.specs.declared.Effect.{Effect}
 use Rattle.burst.specs.Clean.{isJam, isRep, dataTo, cleanAt}
@@ -15,36 +15,35 @@ module _ (k : ℕ → Bool) where
   pub none-set : ((i : ℕ) → false ≡ k i) → 0 ≡ setOf k
   none-set e = is-gather 16 0 k (omega arith) (λ i h. has-none i ∙ e i)
 
-  pub same-as : (f : ℕ → Bool) (c : ℕ) → c ≡ setOf f → ((i : ℕ) → f i ≡ k i) → c ≡ setOf k
-  same-as f c p e = p ∙ gather-same 16 f k (λ i h. e i)
+  pub same-set : (c : ℕ) → c < 65536 → ((i : ℕ) → has c i ≡ k i) → c ≡ setOf k
+  same-set c l e = is-gather 16 c k l (λ i h. e i)
 
-  pub both-set : (f g : ℕ → Bool) (c d : ℕ) → c ≡ setOf f → d ≡ setOf g → ((i : ℕ) → (f i && g i) ≡ k i) → bitAnd c d ≡ setOf k
-  both-set f g c d p q e =
-      let m : c < 65536 = rw p (gather-lt 16 f) in
-      is-gather 16 (bitAnd c d) k (omega (arith, and-le-l c d)) (λ i h. has-and c d i ∙ rw (p, q, has-gather 16 f i h, has-gather 16 g i h) (e i))
+  pub both-set : (f : ℕ → Bool) (c d : ℕ) → c < 65536 → d ≡ setOf f → ((i : ℕ) → (has c i && f i) ≡ k i) → bitAnd c d ≡ setOf k
+  both-set f c d l q e = is-gather 16 (bitAnd c d) k (omega (arith, and-le-l c d)) (λ i h. has-and c d i ∙ rw (q, has-gather 16 f i h) (e i))
 
 -- the ports that data goes out to
-module _ (f : Effect) where
-  pub data-rep : f .out < 65536 → isRep (f .word) ≡ true → f .out ≡ setOf (dataTo f)
+module _ (effect : Effect) where
+  pub data-rep : effect .out < 65536 → isRep (effect .word) ≡ true → effect .out ≡ setOf (dataTo effect)
   unfolding dataTo
-  data-rep l e = is-gather 16 (f .out) (dataTo f) l (λ i h. rw e)
+  data-rep l e = is-gather 16 (effect .out) (dataTo effect) l (λ i h. rw e)
 
-  pub data-none : isRep (f .word) ≡ false → 0 ≡ setOf (dataTo f)
+  pub data-none : isRep (effect .word) ≡ false → 0 ≡ setOf (dataTo effect)
   unfolding dataTo
-  data-none e = none-set (dataTo f) (λ i. rw e)
+  data-none e = none-set (dataTo effect) (λ i. rw e)
 
 -- the ports that the burst is clean for
-module _ (g : Hearing) (f : Effect) where
-  pub clean-jam : isJam (f .word) ≡ true → 0 ≡ setOf (cleanAt g f)
+module _ (hearing : Hearing) (effect : Effect) where
+  pub clean-jam : isJam (effect .word) ≡ true → 0 ≡ setOf (cleanAt hearing effect)
   unfolding cleanAt
-  clean-jam e = none-set (cleanAt g f) (λ i. rw e)
+  clean-jam e = none-set (cleanAt hearing effect) (λ i. rw e)
 
-  pub clean-rest : (d : ℕ) → g .e < 65536 → f .collided < 65536 → isJam (f .word) ≡ false → d ≡ setOf (dataTo f)
-      → without (bitOr (g .e) d) (f .collided) ≡ setOf (cleanAt g f)
+  pub clean-rest : (d : ℕ) → hearing .e < 65536 → effect .collided < 65536 → isJam (effect .word) ≡ false → d ≡ setOf (dataTo effect)
+      → without (bitOr (hearing .e) d) (effect .collided) ≡ setOf (cleanAt hearing effect)
   unfolding cleanAt
   clean-rest d l k e q =
-      let n = bitOr (g .e) d in
-      let m : n < 65536 = or-lt 16 (g .e) d l (rw q (gather-lt 16 (dataTo f))) in
-      is-gather 16 (without n (f .collided)) (cleanAt g f) (omega (arith, and-le-l n (65535 - f .collided)))
-      (λ i h. has-without n (f .collided) i k h
-      ∙ rw (has-or (g .e) d i, q, has-gather 16 (dataTo f) i h, e) (and-comm (has (g .e) i || dataTo f i) (not (has (f .collided) i))))
+      let n = bitOr (hearing .e) d in
+      let m : n < 65536 = or-lt 16 (hearing .e) d l (rw q (gather-lt 16 (dataTo effect))) in
+      is-gather 16 (without n (effect .collided)) (cleanAt hearing effect) (omega (arith, and-le-l n (65535 - effect .collided)))
+      (λ i h. has-without n (effect .collided) i k h
+      ∙ rw (has-or (hearing .e) d i, q, has-gather 16 (dataTo effect) i h, e)
+      (and-comm (has (hearing .e) i || dataTo effect i) (not (has (effect .collided) i))))

@@ -1,17 +1,17 @@
-// A burst by itself: what is heard of it, what follows for the wire, and what it is for the ports: which it sends data to, is clean for, connects again. The ports'
-// own steps are in the crates port and repeater.
+// A burst by itself: what is heard of it, what follows for the wire, and what it is for the ports: which it sends data to, is clean for, connects again.
+// The ports' own steps are in the crates port and repeater.
 ghost use mathlib.Core.Path.{_≡_};
 ghost use mathlib.Core.Bool.{_&&_};
 ghost use lib.Dec.{eqb};
 ghost use Rattle.ports.specs.Sets.{setOf};
-ghost use Rattle.burst.specs.Burst.{inE, heardOf, collisionHeard, wordOf, sentTo, collidedAt, effectOf};
-ghost use Rattle.burst.specs.Marks.{alone, marksOf};
+ghost use Rattle.burst.specs.Burst.{inE, heardOf, signalled, wordOfOne, effectWith, effectOf};
+ghost use Rattle.burst.specs.Marks.{marksOf};
 ghost use Rattle.burst.specs.Clean.{isJam, isRep, dataTo, cleanAt, reconnectingAt};
 use management::Status;
 use port::Port;
 
-// Activity from idle to idle, as a burst record has it.
-pub struct Burst {
+// A burst, from idle to idle, as its record has it.
+pub struct Activity {
     pub mask: u16,
     pub rate_error: bool,
     pub collision_signal: bool,
@@ -19,6 +19,11 @@ pub struct Burst {
     pub sqe_test: bool,
     pub d: u32,
     pub x: u32,
+}
+
+// What the expansion bus brings while a burst lasts.
+pub enum Bus {
+    Nothing,
 }
 
 // What the repeater does with a burst: nothing, data or jam.
@@ -43,66 +48,45 @@ pub struct Hearing {
     pub heard: Heard,
 }
 
-// The second half: the word, where it goes, who collides, and whether it is a collision for the credits.
+// The second half: the word, where it goes, who collides, the single heard port or no port, whether it is a collision for the credits, and whether
+// two or more are heard.
 pub struct Effect {
     pub word: Word,
     pub out: u16,
     pub collided: u16,
+    pub single: usize,
     pub collision: bool,
+    pub transmit_collision: bool,
 }
 
-impl Burst {
-    // AUI's place in a mask.
-    pub const AUI: usize = 8;
-
-    // A burst longer than this many bit times trips the jabber lock-up protection.
-    pub const JABBER: u32 = 65536;
+impl Activity {
+    // A burst of more bit times than this trips the jabber lock-up protection, and is a very long event.
+    pub const JABBER_ABOVE: u32 = 65536;
 
     // E.
     pub fn active(self) -> u16
         ensures { λ r. ⌜ r ≡ setOf (inE self) ⌝ }
     {
         if self.collision_signal {
-            return self.mask | ports::only(Burst::AUI);
+            return self.mask | ports::only(ports::AUI);
         }
         self.mask
     }
 
-    // Whether the heard port p, alone, makes a collision: AUI with its collision signal.
-    fn signalled(self, p: usize) -> bool
-        ensures { λ r. ⌜ r ≡ (eqb p 8 && self .«collision_signal») ⌝ }
+    // Whether the heard port, alone, makes a collision: AUI with its collision signal.
+    fn signalled(self, port: usize) -> bool
+        ensures { λ r. ⌜ r ≡ signalled port self ⌝ }
     {
-        if p == Burst::AUI {
+        if port == ports::AUI {
             return self.collision_signal;
         }
         false
     }
 
-    // Whether what is heard is a collision for the credits.
-    pub fn collision(self, heard: Heard) -> bool
-        ensures { λ r. ⌜ r ≡ collisionHeard heard self ⌝ }
+    fn word_of_one(self, port: usize) -> Word
+        ensures { λ r. ⌜ r ≡ wordOfOne port self ⌝ }
     {
-        match heard {
-            Heard::Nothing => false,
-            Heard::One(p) => self.signalled(p),
-            Heard::More => true,
-        }
-    }
-
-    pub fn word(self, heard: Heard) -> Word
-        ensures { λ r. ⌜ r ≡ wordOf heard self ⌝ }
-    {
-        match heard {
-            Heard::Nothing => Word::Nil,
-            Heard::One(p) => self.word_of_one(p),
-            Heard::More => Word::Jam,
-        }
-    }
-
-    fn word_of_one(self, p: usize) -> Word
-        ensures { λ r. ⌜ r ≡ wordOf (Heard.One p) self ⌝ }
-    {
-        if self.signalled(p) {
+        if self.signalled(port) {
             return Word::Jam;
         }
         if self.rate_error {
@@ -111,101 +95,119 @@ impl Burst {
         Word::Rep
     }
 
-    // The ports that something goes out to.
-    pub fn out(self, heard: Heard, t: u16) -> u16
-        ensures { λ r. ⌜ r ≡ setOf (sentTo heard t) ⌝ }
-    {
-        match heard {
-            Heard::Nothing => 0,
-            Heard::One(p) => ports::less(t, ports::only(p)),
-            Heard::More => t,
-        }
-    }
-
-    // The ports that collide.
-    pub fn collided(self, heard: Heard, e: u16, t: u16) -> u16
-        ensures { λ r. ⌜ r ≡ setOf (collidedAt heard self e t) ⌝ }
-    {
-        match heard {
-            Heard::Nothing => self.collided_unheard(t),
-            Heard::One(p) => self.collided_with_one(p, e, t),
-            Heard::More => e & t,
-        }
-    }
-
-    fn collided_unheard(self, t: u16) -> u16
-        ensures { λ r. ⌜ r ≡ setOf (collidedAt Heard.Nothing self 0 t) ⌝ }
+    fn collided_with_none(self, hearing: Hearing) -> u16
+        ensures { λ r. ⌜ r ≡ effectWith Bus.Nothing Heard.Nothing hearing self .collided ⌝ }
     {
         if self.collision_signal {
-            return ports::only(Burst::AUI) & t;
+            return ports::only(ports::AUI) & hearing.t;
         }
         0
     }
 
-    fn collided_with_one(self, p: usize, e: u16, t: u16) -> u16
-        ensures { λ r. ⌜ r ≡ setOf (collidedAt (Heard.One p) self e t) ⌝ }
+    fn collided_with_one(self, port: usize, hearing: Hearing) -> u16
+        ensures { λ r. ⌜ r ≡ effectWith Bus.Nothing (Heard.One port) hearing self .collided ⌝ }
     {
-        if self.signalled(p) {
-            return e & t;
+        let both = hearing.e & hearing.t;
+        if self.signalled(port) {
+            return both;
         }
-        ports::less(e & t, ports::only(p))
+        ports::less(both, ports::only(port))
     }
 
-    // The second half together.
-    pub fn effect(self, g: Hearing) -> Effect
-        ensures { λ r. ⌜ r ≡ effectOf g self ⌝ }
+    // What follows where no port is heard.
+    fn with_none(self, hearing: Hearing) -> Effect
+        ensures { λ r. ⌜ r ≡ effectWith Bus.Nothing Heard.Nothing hearing self ⌝ }
     {
-        let heard = g.heard;
-        let word = self.word(heard);
-        let out = self.out(heard, g.t);
-        let collided = self.collided(heard, g.e, g.t);
-        let collision = self.collision(heard);
+        let collided = self.collided_with_none(hearing);
+        Effect {
+            word: Word::Nil,
+            out: 0,
+            collided: collided,
+            single: ports::NONE,
+            collision: false,
+            transmit_collision: false,
+        }
+    }
+
+    // What follows where one port is heard.
+    fn with_one(self, port: usize, hearing: Hearing) -> Effect
+        ensures { λ r. ⌜ r ≡ effectWith Bus.Nothing (Heard.One port) hearing self ⌝ }
+    {
+        let word = self.word_of_one(port);
+        let out = ports::less(hearing.t, ports::only(port));
+        let collided = self.collided_with_one(port, hearing);
+        let collision = self.signalled(port);
         Effect {
             word: word,
             out: out,
             collided: collided,
+            single: port,
             collision: collision,
+            transmit_collision: false,
+        }
+    }
+
+    // What follows where two or more are heard.
+    fn with_more(self, hearing: Hearing) -> Effect
+        ensures { λ r. ⌜ r ≡ effectWith Bus.Nothing Heard.More hearing self ⌝ }
+    {
+        Effect {
+            word: Word::Jam,
+            out: hearing.t,
+            collided: hearing.e & hearing.t,
+            single: ports::NONE,
+            collision: true,
+            transmit_collision: true,
+        }
+    }
+
+    // What follows while the expansion bus brings nothing.
+    fn undisturbed(self, hearing: Hearing) -> Effect
+        ensures { λ r. ⌜ r ≡ effectOf Bus.Nothing hearing self ⌝ }
+    {
+        let heard = hearing.heard;
+        match heard {
+            Heard::Nothing => self.with_none(hearing),
+            Heard::One(port) => self.with_one(port, hearing),
+            Heard::More => self.with_more(hearing),
+        }
+    }
+
+    // The second half together.
+    pub fn effect(self, bus: Bus, hearing: Hearing) -> Effect
+        ensures { λ r. ⌜ r ≡ effectOf bus hearing self ⌝ }
+    {
+        match bus {
+            Bus::Nothing => self.undisturbed(hearing),
         }
     }
 }
 
-impl Burst {
+impl Activity {
     // The single heard port if it carries a bit rate error.
-    fn mistimed(self, heard: Heard) -> u16
-        ensures { λ r. ⌜ r ≡ setOf (λ i. self .«rate_error» && alone heard i) ⌝ }
+    fn mistimed(self, single: usize) -> u16
+        ensures { λ r. ⌜ r ≡ setOf (λ i. self .«rate_error» && eqb i single) ⌝ }
     {
         if self.rate_error {
-            return alone_port(heard);
+            return ports::only(single);
         }
         0
     }
 
     // The status bits that the burst sets.
-    pub fn marks(self, g: Hearing, f: Effect) -> Status
-        ensures { λ r. ⌜ r ≡ marksOf g f self ⌝ }
+    pub fn marks(self, effect: Effect) -> Status
+        ensures { λ r. ⌜ r ≡ marksOf effect self ⌝ }
     {
-        let heard = g.heard;
-        let rates = self.mistimed(heard);
-        let aui = ports::contains(rates, Burst::AUI);
-        let to_aui = ports::contains(f.out, Burst::AUI);
+        let rates = self.mistimed(effect.single);
+        let aui = ports::contains(rates, ports::AUI);
+        let to_aui = ports::contains(effect.out, ports::AUI);
         Status {
             rate: aui,
             sqe: self.sqe_test,
             loopback: self.loopback_missing & to_aui,
             rates: (rates % 256) as u8,
-            jabber: (Burst::JABBER < self.d) & (f.out != 0),
+            mjlp: (Activity::JABBER_ABOVE < self.d) & (effect.out != 0),
         }
-    }
-}
-
-// The single heard port as a set.
-fn alone_port(heard: Heard) -> u16
-    ensures { λ r. ⌜ r ≡ setOf (alone heard) ⌝ }
-{
-    match heard {
-        Heard::Nothing => 0,
-        Heard::One(p) => ports::only(p),
-        Heard::More => 0,
     }
 }
 
@@ -229,20 +231,20 @@ fn place(i: u32) -> usize
     i as usize
 }
 
-fn is_jam(w: Word) -> bool
-    ensures { λ r. ⌜ r ≡ isJam w ⌝ }
+fn is_jam(word: Word) -> bool
+    ensures { λ r. ⌜ r ≡ isJam word ⌝ }
 {
-    match w {
+    match word {
         Word::Nil => false,
         Word::Rep => false,
         Word::Jam => true,
     }
 }
 
-fn is_rep(w: Word) -> bool
-    ensures { λ r. ⌜ r ≡ isRep w ⌝ }
+fn is_rep(word: Word) -> bool
+    ensures { λ r. ⌜ r ≡ isRep word ⌝ }
 {
-    match w {
+    match word {
         Word::Nil => false,
         Word::Rep => true,
         Word::Jam => false,
@@ -254,30 +256,29 @@ impl Effect {
     fn data(self) -> u16
         ensures { λ r. ⌜ r ≡ setOf (dataTo self) ⌝ }
     {
-        let w = self.word;
-        if is_rep(w) {
+        let word = self.word;
+        if is_rep(word) {
             return self.out;
         }
         0
     }
 
     // The ports that the burst is clean for.
-    pub fn clean(self, g: Hearing) -> u16
-        ensures { λ r. ⌜ r ≡ setOf (cleanAt g self) ⌝ }
+    pub fn clean(self, hearing: Hearing) -> u16
+        ensures { λ r. ⌜ r ≡ setOf (cleanAt hearing self) ⌝ }
     {
-        let w = self.word;
-        if is_jam(w) {
+        let word = self.word;
+        if is_jam(word) {
             return 0;
         }
-        ports::less(g.e | self.data(), self.collided)
+        ports::less(hearing.e | self.data(), self.collided)
     }
 
-    // The ports that the burst connects again if they are partitioned.
-    pub fn reconnecting(self, g: Hearing, b: Burst, alternate: bool) -> u16
-        ensures { λ r. ⌜ r ≡ setOf (reconnectingAt g self b alternate) ⌝ }
+    // Of the ports that the burst is clean for, those that it connects again if they are partitioned.
+    pub fn reconnecting(self, clean: u16, activity: Activity, alternate: bool) -> u16
+        ensures { λ r. ⌜ r ≡ setOf (reconnectingAt self activity clean alternate) ⌝ }
     {
-        if Port::RECONNECT < b.d {
-            let clean = self.clean(g);
+        if Port::RECONNECTS_ABOVE < activity.d {
             if alternate {
                 return clean & self.data();
             }

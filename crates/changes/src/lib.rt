@@ -2,94 +2,108 @@
 ghost use mathlib.Core.Path.{_≡_};
 ghost use lib.ListN.{getD, set};
 ghost use Rattle.changes.specs.Changes.{bit7, tpByte, auiBit, eventsOf, noted, keptBits, pending};
-use burst::Burst;
+
+// How many registers there are, with R 5, which has no bits.
+pub const REGISTERS: usize = 8;
+
+// The bit of a register that has one bit alone.
+const BIT_7: u8 = 128;
 
 // Bit 7 of a byte.
-pub fn bit_7(b: bool) -> u8
-    ensures { λ r. ⌜ r ≡ bit7 b ⌝ }
+pub fn bit_7(one: bool) -> u8
+    ensures { λ r. ⌜ r ≡ bit7 one ⌝ }
 {
-    if b { 128 } else { 0 }
+    if one { BIT_7 } else { 0 }
 }
 
 // The TP ports of a set.
-fn tp_byte(m: u16) -> u8
-    ensures { λ r. ⌜ r ≡ tpByte m ⌝ }
+fn tp_byte(mask: u16) -> u8
+    ensures { λ r. ⌜ r ≡ tpByte mask ⌝ }
 {
-    (m % 256) as u8
+    (mask % 256) as u8
 }
 
 // AUI of a set.
-fn aui_bit(m: u16) -> u8
-    ensures { λ r. ⌜ r ≡ auiBit m ⌝ }
+fn aui_bit(mask: u16) -> u8
+    ensures { λ r. ⌜ r ≡ auiBit mask ⌝ }
 {
-    bit_7(ports::contains(m, Burst::AUI))
+    bit_7(ports::contains(mask, ports::AUI))
 }
 
 // The bits that events set, register by register.
-pub fn events(partition: u16, link: u16, loopback: bool, sqe: bool, address: u16) -> [u8; 8]
+pub fn events(partition: u16, link: u16, loopback: bool, sqe: bool, address: u16) -> [u8; REGISTERS]
     ensures { λ r. ⌜ r ≡ eventsOf partition link loopback sqe address ⌝ }
 {
-    let a = tp_byte(partition);
-    let b = aui_bit(partition);
-    let c = tp_byte(link);
-    let d = bit_7(loopback);
-    let e = bit_7(sqe);
-    let f = tp_byte(address);
-    let g = aui_bit(address);
-    [a, b, c, d, e, 0, f, g]
+    let tp_partition = tp_byte(partition);
+    let aui_partition = aui_bit(partition);
+    let tp_link = tp_byte(link);
+    let aui_loopback = bit_7(loopback);
+    let aui_sqe = bit_7(sqe);
+    let tp_address = tp_byte(address);
+    let aui_address = aui_bit(address);
+    [
+        tp_partition,
+        aui_partition,
+        tp_link,
+        aui_loopback,
+        aui_sqe,
+        0,
+        tp_address,
+        aui_address,
+    ]
 }
 
 // The change bits with events.
-pub fn note(changes: [u8; 8], events: [u8; 8]) -> [u8; 8]
+pub fn note(changes: [u8; REGISTERS], events: [u8; REGISTERS]) -> [u8; REGISTERS]
     ensures { λ r. ⌜ r ≡ noted events changes ⌝ }
 {
     let mut out = changes;
-    for i in 0..8 {
+    for i in 0..REGISTERS {
         out[i] = out[i] | events[i];
     }
     out
 }
 
 // What a write to the enables of R keeps.
-pub fn keep_bits(r: u8, b: u8) -> u8
-    ensures { λ k. ⌜ k ≡ keptBits r b ⌝ }
+pub fn keep_bits(register: u8, byte: u8) -> u8
+    ensures { λ r. ⌜ r ≡ keptBits register byte ⌝ }
 {
-    if (r == 1) | (r == 3) | (r == 4) | (r == 7) {
-        return b & 128;
+    if (register == 1) | (register == 3) | (register == 4) | (register == 7) {
+        return byte & BIT_7;
     }
-    b
+    byte
 }
 
 // Whether some change bit and its enable are both one.
-pub fn is_pending(c: [u8; 8], e: [u8; 8]) -> bool
-    ensures { λ r. ⌜ r ≡ pending c e ⌝ }
+pub fn is_pending(changes: [u8; REGISTERS], enables: [u8; REGISTERS]) -> bool
+    ensures { λ r. ⌜ r ≡ pending changes enables ⌝ }
 {
-    ((c[0] & e[0]) != 0)
-        | ((c[1] & e[1]) != 0)
-        | ((c[2] & e[2]) != 0)
-        | ((c[3] & e[3]) != 0)
-        | ((c[4] & e[4]) != 0)
-        | ((c[6] & e[6]) != 0)
-        | ((c[7] & e[7]) != 0)
+    ((changes[0] & enables[0]) != 0)
+        | ((changes[1] & enables[1]) != 0)
+        | ((changes[2] & enables[2]) != 0)
+        | ((changes[3] & enables[3]) != 0)
+        | ((changes[4] & enables[4]) != 0)
+        | ((changes[6] & enables[6]) != 0)
+        | ((changes[7] & enables[7]) != 0)
 }
 
 // The byte of register R among eight, or 0 past the last.
-pub fn bits_at(bits: [u8; 8], i: usize) -> u8
-    ensures { λ r. ⌜ r ≡ getD bits i 0 ⌝ }
+pub fn bits_at(bits: [u8; REGISTERS], register: usize) -> u8
+    ensures { λ r. ⌜ r ≡ getD bits register 0 ⌝ }
 {
-    if i < 8 {
-        return bits[i];
+    if register < REGISTERS {
+        return bits[register];
     }
     0
 }
 
 // The bytes with another at R.
-pub fn with_bits(bits: [u8; 8], i: usize, b: u8) -> [u8; 8]
-    ensures { λ r. ⌜ r ≡ set bits i b ⌝ }
+pub fn with_bits(bits: [u8; REGISTERS], register: usize, byte: u8) -> [u8; REGISTERS]
+    ensures { λ r. ⌜ r ≡ set bits register byte ⌝ }
 {
     let mut out = bits;
-    if i < 8 {
-        out[i] = b;
+    if register < REGISTERS {
+        out[register] = byte;
         return out;
     }
     out

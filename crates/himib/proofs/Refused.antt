@@ -9,28 +9,29 @@ use native.Mathlib.Omega.{arith}
 use borrow.Author.Tests.{ne-eqb}
 use lib.Dec.{eqb}
 use lib.ListN.{length, set}
-use Rattle.record.specs.declared.Asked.the-variants as ask
-use Rattle.record.specs.Record.{kind, written, byteIn, kinds, find, stray}
+use Rattle.record.specs.declared.Access.{Access}
+use Rattle.record.specs.declared.Access.the-variants.{WriteC, WriteD, ReadC, ReadD}
+use Rattle.record.specs.Record.{recordLength, kind, written, byteIn, dWriteKind, dReadKind, kinds, find, stray}
+use Rattle.record.specs.Records.{noAddress, burstRecord, plainRecord, cWriteRecord, dWriteRecord, dReadRecord}
 use Rattle.record.specs.Refusals.{Row, refusals, firstOf, answer, askedBy, recordOf}
-use Rattle.management.specs.declared.Command.{Command}
-use Rattle.management.specs.Commands.{commandOf}
 use Rattle.host.specs.declared.Host.{Host}
-use Rattle.host.specs.declared.Register as Reg
-use Rattle.host.specs.declared.Register.the-variants as reg
-use Rattle.host.specs.Map.{table, rowOf, sizeOf, readableReg, writableReg}
+use Rattle.host.specs.declared.Row as R
 use Rattle.host.specs.Sequence.{powerUp, withSelection}
-use Rattle.host.specs.Stands.{listed}
+use Rattle.attributes.specs.declared.Nine.{Nine}
 use Rattle.answer.specs.Answer.{numberOf, outputsOf, byteOf}
 use Rattle.answer.specs.declared.Answer.{Answer}
 use Rattle.answer.specs.declared.Answer.the-variants.{Refused}
-use Rattle.himib.specs.declared.step.Chip.{Chip}
-use Rattle.himib.specs.declared.step.Stepped.{Stepped}
-use Rattle.himib.specs.Bursts.{burstOn}
-use Rattle.himib.specs.Access.{selectedBy, turnedAway, takesCommands, isListed, cReadOf, readOf, writeOf, dReadOf, dWriteOf}
-use Rattle.himib.specs.Step.{actOn, afterAct, readdressed, taken, stepOf}
-use Rattle.himib.specs.Records.{burstRecord, plainRecord, cWriteRecord, dWriteRecord, dReadRecord}
-use Rattle.himib.specs.Sheet.{powered}
-use Rattle.himib.specs.Refusals.{writeOnly, readOnly, accessRefusals, refusalsOf, turned, isRefused, Settled, Untouched}
+use Rattle.chip.specs.declared.Chip.{Chip}
+use Rattle.access.specs.declared.Acted.{Acted}
+use Rattle.access.specs.Access.{selectedBy, strange, served}
+use Rattle.access.specs.Refusals.{listed, writeOnly, readOnly, rowsOf, isRefused, Left}
+use Rattle.access.proofs.Refused.{left}
+use Rattle.himib.specs.declared.Stepped.{Stepped}
+use Rattle.himib.specs.Bursts.{notedOn, burstOn}
+use Rattle.himib.specs.Step.{afterAccess, turned, taken, stepOf}
+use Rattle.himib.specs.Runs.{start, allAt}
+use Rattle.himib.specs.Refusals.{accessRefusals, refusalsOf, Settled, Untouched}
+use Rattle.himib.proofs.HimibLaws.{addressed-nobody}
 use Rattle.himib.proofs.Computing.{computing}
 
 -- records that are turned away, each with the host's record that it comes with, in the table's order: S is P 0, R 30
@@ -40,10 +41,10 @@ onS = withSelection powerUp 0 30
 abbrev turnedAways : List (Host × List ℕ)
 turnedAways =
     (powerUp, [])
-    ∷ (powerUp, plainRecord 9 0)
-    ∷ (powerUp, burstRecord 512 0 1 0 0 0 0)
-    ∷ (powerUp, burstRecord 1 0 0 0 0 0 0)
-    ∷ (powerUp, burstRecord 0 0 1 0 0 0 0)
+    ∷ (powerUp, plainRecord 9 0 0)
+    ∷ (powerUp, burstRecord 512 0 1 0 0 0 0 noAddress)
+    ∷ (powerUp, burstRecord 1 0 0 0 0 0 0 noAddress)
+    ∷ (powerUp, burstRecord 0 0 1 0 0 0 0 noAddress)
     ∷ (powerUp, cWriteRecord 0x20)
     ∷ (powerUp, dReadRecord)
     ∷ (onS, dReadRecord)
@@ -54,9 +55,9 @@ turnedAways =
 abbrev turnedTwice : List (Host × List ℕ)
 turnedTwice =
     (powerUp, 9 ∷ [])
-    ∷ (powerUp, set (burstRecord 512 0 1 0 0 0 0) 14 1)
-    ∷ (powerUp, burstRecord 512 0 0 0 0 0 0)
-    ∷ (powerUp, burstRecord 0 0 0 0 0 0 0)
+    ∷ (powerUp, set (burstRecord 512 0 1 0 0 0 0 noAddress) 14 1)
+    ∷ (powerUp, burstRecord 512 0 0 0 0 0 0 noAddress)
+    ∷ (powerUp, burstRecord 0 0 0 0 0 0 0 noAddress)
     ∷ (powerUp, set (cWriteRecord 0x20) 31 1)
     ∷ (onS, set (dWriteRecord 0) 24 1)
     ∷ []
@@ -67,12 +68,12 @@ numbers (w ∷ ws) = firstOf (refusalsOf (w .0) (w .1)) ∷ numbers ws
 
 answered : List (Host × List ℕ) → List Answer
 answered [] = []
-answered (w ∷ ws) = stepOf (powered 0) (w .0) (w .1) .answer ∷ answered ws
+answered (w ∷ ws) = stepOf (start (allAt 0) .chip) (w .0) (w .1) .answer ∷ answered ws
 
 each-number : (answered turnedAways ≡ Refused 9 ∷ Refused 8 ∷ Refused 3 ∷ Refused 2 ∷ Refused 1 ∷ Refused 7 ∷ Refused 5 ∷ Refused 6 ∷ Refused 4 ∷ [])
     × (numbers turnedAways ≡ some 9 ∷ some 8 ∷ some 3 ∷ some 2 ∷ some 1 ∷ some 7 ∷ some 5 ∷ some 6 ∷ some 4 ∷ [])
     × (answered turnedTwice ≡ Refused 9 ∷ Refused 8 ∷ Refused 3 ∷ Refused 2 ∷ Refused 8 ∷ Refused 8 ∷ [])
-unfolding computing powered listed accessRefusals refusalsOf numbers answered
+unfolding computing accessRefusals refusalsOf numbers answered
 each-number = (refl, refl, refl)
 
 -- the first of two tables
@@ -90,75 +91,24 @@ first-append (r ∷ rs) ts = go (r .holds) (first-append rs ts)
     go true e = refl
     go false e = e
 
--- the rows of a D read, and of a D write, as the accesses ask them
-abbrev readRows : Reg.Register → Option ℕ
-readRows x = cond (not (listed x)) (some 5) (cond (writeOnly x) (some 6) none)
-
-abbrev writeRows : Reg.Register → Command → Option ℕ
-writeRows x k = cond (not (listed x)) (some 5) (cond (readOnly x) (some 6) (cond (takesCommands x && not (isListed k)) (some 4) none))
-
-read-rows : (x : Reg.Register) → readRows x ≡ cond (eqb (sizeOf x) 0) (some 5) (cond (not (readableReg x)) (some 6) none)
-unfolding listed table rowOf sizeOf readableReg writableReg
-read-rows reg.Unlisted = refl
-read-rows reg.TransmitCollisions = refl
-read-rows reg.TotalOctets = refl
-read-rows reg.Version = refl
-read-rows reg.SetPort = refl
-read-rows reg.GetPort = refl
-read-rows (reg.Change r) = refl
-read-rows (reg.Enable r) = refl
-read-rows (reg.Counter p r) = refl
-read-rows (reg.Address p) = refl
-
-write-rows : (x : Reg.Register) (k : Command)
-    → writeRows x k ≡ cond (eqb (sizeOf x) 0) (some 5) (cond (not (writableReg x)) (some 6) (cond (takesCommands x && not (isListed k)) (some 4) none))
-unfolding listed table rowOf sizeOf readableReg writableReg
-write-rows reg.Unlisted k = refl
-write-rows reg.TransmitCollisions k = refl
-write-rows reg.TotalOctets k = refl
-write-rows reg.Version k = refl
-write-rows reg.SetPort k = refl
-write-rows reg.GetPort k = refl
-write-rows (reg.Change r) k = refl
-write-rows (reg.Enable r) k = refl
-write-rows (reg.Counter p r) k = refl
-write-rows (reg.Address p) k = refl
-
+-- an access that is left as it was leaves the chip so, too
 module _ (s : Chip) (h : Host) where
-  settled-read : Settled (readRows (selectedBy h)) s h (afterAct (s .attributes) (dReadOf (s .core) (s .attributes) h))
-  unfolding dReadOf readOf readdressed
-  settled-read = rw (read-rows (selectedBy h)) (go (eqb (sizeOf (selectedBy h)) 0) (not (readableReg (selectedBy h))))
-    where
-      go : (a b : Bool)
-          → Settled (cond a (some 5) (cond b (some 6) none)) s h
-          (afterAct (s .attributes)
-          (cond a (turnedAway (s .core) h 5) (cond b (turnedAway (s .core) h 6) (readOf (selectedBy h) (s .core) (s .attributes) h))))
-      go true b = refl
-      go false true = refl
-      go false false = refl
+  lifted : (o : Option ℕ) (t : Acted) → Left o (s .core) h t → Settled o s h (afterAccess (s .attributes) t)
+  lifted none t e = e
+  lifted (some k) t e = ap (afterAccess (s .attributes)) e
+      ∙ ap (λ (nine : Nine). turned (record { core = s .core; attributes = nine }) h k) (addressed-nobody (h .bytes) (s .attributes))
 
-  settled-write : (b : ℕ) → Settled (writeRows (selectedBy h) (commandOf b)) s h (afterAct (s .attributes) (dWriteOf (s .core) h b))
-  unfolding dWriteOf writeOf readdressed
-  settled-write w = rw (write-rows (selectedBy h) (commandOf w))
-      (go (eqb (sizeOf (selectedBy h)) 0) (not (writableReg (selectedBy h))) (takesCommands (selectedBy h) && not (isListed (commandOf w))))
-    where
-      go : (a b c : Bool)
-          → Settled (cond a (some 5) (cond b (some 6) (cond c (some 4) none))) s h
-          (afterAct (s .attributes)
-          (cond a (turnedAway (s .core) h 5) (cond b (turnedAway (s .core) h 6) (cond c (turnedAway (s .core) h 4) (writeOf (selectedBy h) (s .core) h w)))))
-      go true b c = refl
-      go false true c = refl
-      go false false true = refl
-      go false false false = refl
+  settled-access : (a : Access) → Settled (firstOf (rowsOf a (selectedBy h))) s h (afterAccess (s .attributes) (served a (s .core) (s .attributes) h))
+  settled-access a = lifted (firstOf (rowsOf a (selectedBy h))) (served a (s .core) (s .attributes) h) (left (s .core) (s .attributes) h a)
 
--- the rows of an access for a record of kind n
-abbrev accessRows : ℕ → Reg.Register → Command → Option ℕ
-accessRows n x k =
-    cond ((eqb n 5 || eqb n 7) && not (listed x)) (some 5)
-    (cond (eqb n 7 && writeOnly x || eqb n 5 && readOnly x) (some 6)
-    (cond (eqb n 5 && takesCommands x && not (isListed k)) (some 4) none))
+-- the rows of an access for a record of kind n with the written byte b, where w is selected
+abbrev rowsFor : ℕ → R.Row → ℕ → Option ℕ
+rowsFor n w b =
+    cond ((eqb n dWriteKind || eqb n dReadKind) && not (listed w)) (some 5)
+    (cond (eqb n dReadKind && writeOnly w || eqb n dWriteKind && readOnly w) (some 6)
+    (cond (eqb n dWriteKind && strange (w .role) b) (some 4) none))
 
-access-rows : (h : Host) (bs : List ℕ) → firstOf (accessRefusals h bs) ≡ accessRows (byteIn bs kind) (selectedBy h) (commandOf (byteIn bs written))
+access-rows : (h : Host) (bs : List ℕ) → firstOf (accessRefusals h bs) ≡ rowsFor (byteIn bs kind) (selectedBy h) (byteIn bs written)
 unfolding firstOf accessRefusals
 access-rows h bs = refl
 
@@ -178,18 +128,19 @@ no-kind n bs l =
 
 module _ (s : Chip) (h : Host) (bs source : List ℕ) where
   settled-kind : (n : ℕ) → stray n bs ≡ false
-      → Settled (accessRows n (selectedBy h) (commandOf (byteIn bs written))) s h (taken (askedBy (find kinds n) bs) source s h)
-  unfolding taken actOn find stray cReadOf burstOn
+      → Settled (rowsFor n (selectedBy h) (byteIn bs written)) s h (taken (askedBy (find kinds n) bs) source s h)
+  unfolding taken find stray notedOn burstOn firstOf
   settled-kind zero e = absurd (true≢false e)
   settled-kind (suc zero) e = refl
   settled-kind (suc (suc zero)) e = refl
   settled-kind (suc (suc (suc zero))) e = refl
-  settled-kind (suc (suc (suc (suc zero)))) e = refl
-  settled-kind (suc (suc (suc (suc (suc zero))))) e = settled-write s h (byteIn bs written)
-  settled-kind (suc (suc (suc (suc (suc (suc zero)))))) e = refl
-  settled-kind (suc (suc (suc (suc (suc (suc (suc zero))))))) e = rw (or-false (writeOnly (selectedBy h))) (settled-read s h)
+  settled-kind (suc (suc (suc (suc zero)))) e = settled-access s h (WriteC (byteIn bs written))
+  settled-kind (suc (suc (suc (suc (suc zero))))) e = settled-access s h (WriteD (byteIn bs written))
+  settled-kind (suc (suc (suc (suc (suc (suc zero)))))) e = settled-access s h ReadC
+  settled-kind (suc (suc (suc (suc (suc (suc (suc zero))))))) e = rw (or-false (writeOnly (selectedBy h))) (settled-access s h ReadD)
   settled-kind (suc (suc (suc (suc (suc (suc (suc (suc zero)))))))) e = refl
-  settled-kind (suc (suc (suc (suc (suc (suc (suc (suc (suc n))))))))) e = absurd (true≢false (sym (no-kind (suc (suc (suc (suc (suc (suc (suc (suc (suc n))))))))) bs (omega arith)) ∙ e))
+  settled-kind (suc (suc (suc (suc (suc (suc (suc (suc (suc n))))))))) e =
+      absurd (true≢false (sym (no-kind (suc (suc (suc (suc (suc (suc (suc (suc (suc n))))))))) bs (omega arith)) ∙ e))
 
 -- of two rows the second does not hold where the table has no number
 second-fails : (a b : Bool) (j k : ℕ) (o : Option ℕ) → cond a (some j) (cond b (some k) o) ≡ none → b ≡ false
@@ -199,19 +150,19 @@ second-fails false false j k o e = refl
 
 not-stray : (bs : List ℕ) → firstOf (refusals bs) ≡ none → stray (byteIn bs kind) bs ≡ false
 unfolding firstOf refusals
-not-stray bs e = second-fails (not (eqb (length bs) 32)) (stray (byteIn bs kind) bs) 9 8 _ e
+not-stray bs e = second-fails (not (eqb (length bs) recordLength)) (stray (byteIn bs kind) bs) 9 8 _ e
 
 module _ (s : Chip) (h : Host) (bs : List ℕ) where
   own-row : (k : ℕ) → firstOf (refusals bs) ≡ some k → stepOf s h bs ≡ turned s h k
-  unfolding stepOf recordOf answer taken actOn readdressed
+  unfolding stepOf recordOf answer taken
   own-row k e = rw e
 
   access-row : firstOf (refusals bs) ≡ none → Settled (firstOf (accessRefusals h bs)) s h (stepOf s h bs)
   unfolding stepOf recordOf answer
   access-row e = rw (e, access-rows h bs) (settled-kind s h bs (answer none bs .source) (byteIn bs kind) (not-stray bs e))
 
-  -- Every record, whatever its bytes, on every chip and with every host's record: turned away with the first number of the table whose condition holds, and then nothing
-  -- has changed; and with no number where none holds.
+  -- Every record, whatever its bytes, on every chip and with every host's record: turned away with the first number of the table whose condition holds, and
+  -- then nothing has changed; and with no number where none holds.
   pub settled : Settled (firstOf (refusalsOf h bs)) s h (stepOf s h bs)
   unfolding refusalsOf
   settled = rw (first-append (refusals bs) (accessRefusals h bs)) (go (firstOf (refusals bs)) refl)

@@ -1,26 +1,28 @@
 -- Document 01, 'Burst', on the whole chip: the repeater's burst, the credits, and what it notes.
---   wired b                 == the part of a burst record that is the repeater's
+--   activityOf b            == the part of a burst record that is the repeater's
+--   metBy c t               == what of a burst is credited, as the repeater met it
+--   notedOn c nine b source == the core after a burst, and what it is due
 --   burstOn c nine b source == the core, the attributes and the answer after a burst
 -- Assumes nothing.
-use Prim.Native.Nat.{ℕ, _+_, _%_, _^_}
+use Prim.Native.Nat.{ℕ}
 use mathlib.Core.List.{List}
 use Rattle.ports.specs.Sets.{without}
-use Rattle.ports.specs.Each.{each}
 use Rattle.record.specs.declared.Burst.{Burst}
-use Rattle.burst.specs.declared.Burst as Wire
-use Rattle.burst.specs.declared.Hearing.{Hearing}
-use Rattle.burst.specs.declared.Effect.{Effect}
+use Rattle.burst.specs.declared.Activity.{Activity}
 use Rattle.repeater.specs.declared.Bursted.{Bursted}
 use Rattle.repeater.specs.Repeater.{burstOf, partitionedOf}
-use Rattle.attributes.specs.declared.Attributes.{Attributes}
-use Rattle.attributes.specs.Credits.{changedOf, creditedAt, octetsOf, transmitCollisionsOf}
-use Rattle.himib.specs.declared.core.Core.{Core}
+use Rattle.attributes.specs.declared.Nine.{Nine}
+use Rattle.attributes.specs.declared.Met.{Met}
+use Rattle.attributes.specs.declared.Due.{Due}
+use Rattle.attributes.specs.Credits.{dueOf, creditedAll}
 use Rattle.answer.specs.declared.Answer.the-variants.{Sent}
-use Rattle.himib.specs.declared.step.Credited.{Credited}
-use Rattle.himib.specs.Chip.{moved, withTotals}
+use Rattle.chip.specs.declared.Core.{Core}
+use Rattle.chip.specs.Chip.{moved, totalled}
+use Rattle.himib.specs.declared.Credited.{Credited}
+use Rattle.himib.specs.declared.Noted.{Noted}
 
-unfoldable pub wired : Burst → Wire.Burst
-wired b = record {
+unfoldable pub activityOf : Burst → Activity
+activityOf b = record {
   mask = b .mask;
   «rate_error» = b .«rate_error»;
   «collision_signal» = b .«collision_signal»;
@@ -30,30 +32,27 @@ wired b = record {
   x = b .x;
 }
 
--- the ports that a burst partitioned
-abbrev pub cutBy : Core → Bursted → ℕ
-cutBy c t = without (partitionedOf (t .repeater)) (partitionedOf (c .repeater))
+abbrev pub metBy : Core → Bursted → Met
+metBy c t = record {
+  heard = t .hearing .h;
+  single = t .effect .single;
+  collision = t .effect .collision;
+  cut = without (partitionedOf (t .repeater)) (partitionedOf (c .repeater));
+}
 
-abbrev pub counted32 : ℕ → ℕ → ℕ
-counted32 n credit = (n + credit) % 2 ^ 32
+-- what a burst leaves of the core: the repeater after it, the events noted, the two counters
+unfoldable pub burstCore : Core → Bursted → Due → Core
+burstCore c t due =
+    totalled (moved c (t .repeater) (t .marks .loopback) (t .marks .sqe) (due .changed)) (t .effect .«transmit_collision») (due .octets)
 
--- the core d with what a burst makes of the chip's two counters in the core c
-abbrev pub totalled : Core → Core → Hearing → Effect → Burst → Core
-totalled c d g f b =
-    withTotals d
-    (counted32 (c .«transmit_collisions») (transmitCollisionsOf g))
-    (counted32 (c .«total_octets») (octetsOf g f b))
+-- the core after a burst, what the burst is due, and its answer; the attributes are only asked for the last source address
+unfoldable pub notedOn : Core → Nine → Burst → List ℕ → Noted
+notedOn c nine b source =
+    let t : Bursted = burstOf (c .repeater) (activityOf b) in
+    let due : Due = dueOf nine (metBy c t) b source in
+    record { core = burstCore c t due; due = due; answer = Sent (t .effect .word) (t .effect .out) }
 
-unfoldable pub burstCore : Core → Bursted → Burst → ℕ → Core
-burstCore c t b changed =
-    totalled c (moved c (t .repeater) (t .marks .loopback) (t .marks .sqe) changed) (t .hearing) (t .effect) b
-
-unfoldable pub burstOn : Core → List Attributes → Burst → List ℕ → Credited
+unfoldable pub burstOn : Core → Nine → Burst → List ℕ → Credited
 burstOn c nine b source =
-    let t : Bursted = burstOf (c .repeater) (wired b) in
-    let changed : ℕ = changedOf (t .hearing .heard) (t .effect) b source nine in
-    record {
-      core = burstCore c t b changed;
-      attributes = each (creditedAt (t .hearing) (t .effect) (cutBy c t) changed b source) nine;
-      answer = Sent (t .effect .word) (t .effect .out);
-    }
+    let noted : Noted = notedOn c nine b source in
+    record { core = noted .core; attributes = creditedAll (noted .due) b source nine; answer = noted .answer }

@@ -1,9 +1,6 @@
--- The HIMIB's rules, a file for each section of document 01.
-pub mod Chip
+-- The chip as a whole: a burst, a record, runs, and the boundary sheet.
 pub mod Bursts
-pub mod Access
 pub mod Step
-pub mod Octets
-pub mod Records
-pub mod Sheet
 pub mod Refusals
+pub mod Runs
+pub mod Sheet

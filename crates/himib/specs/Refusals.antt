@@ -1,65 +1,41 @@
 -- Document 01, 'Numbers turned away with': the whole table for one record on a chip, in the paper's order. 10 belongs to the octet check alone.
---   writeOnly x, readOnly x == the ways that 6 speaks of
 --   accessRefusals h bs     == the rows of a D access, which go by the register that the host's record selects
 --   refusalsOf h bs         == the table: first the rows that are the record's own
---   turned s h k            == turned away with k: the chip and the host's record as they were
 --   Settled o s h t         == t is turned away with k where o is k, and with nothing where o is none
 --   Untouched s h t k       == t has the chip s and the host's record h, the number k, no output ports and value 0
 -- Assumes nothing.
-use lib.Dec.{eqb}
 use Prim.Native.Nat.{ℕ}
 use mathlib.Core.Path.{_≡_}
-use mathlib.Core.Bool.{Bool, true, false, not, _&&_, _||_}
+use mathlib.Core.Bool.{Bool, false, not, _&&_, _||_}
 use mathlib.Core.List.{List, [], _∷_, _++_}
 use mathlib.Core.Option.{Option, none, some}
-use Rattle.record.specs.Record.{kind, written, byteIn}
+use lib.Dec.{eqb}
+use Rattle.record.specs.Record.{kind, written, byteIn, dWriteKind, dReadKind}
 use Rattle.record.specs.Refusals.{Row, refusals}
-use Rattle.management.specs.Commands.{commandOf}
 use Rattle.host.specs.declared.Host.{Host}
-use Rattle.host.specs.declared.Register.{Register}
-use Rattle.host.specs.Map.{readableReg, writableReg}
-use Rattle.host.specs.Stands.{listed}
 use Rattle.answer.specs.Answer.{numberOf, outputsOf, byteOf}
-use Rattle.answer.specs.declared.Answer.{Answer}
-use Rattle.answer.specs.declared.Answer.the-variants.{Done, Sent, Value, Refused}
-use Rattle.himib.specs.declared.step.Chip.{Chip}
-use Rattle.himib.specs.declared.step.Stepped.{Stepped}
-use Rattle.himib.specs.Access.{selectedBy, takesCommands, isListed}
-
-abbrev pub row : ℕ → Bool → Row
-row k b = record { number = k; holds = b }
-
-abbrev pub writeOnly : Register → Bool
-writeOnly x = writableReg x && not (readableReg x)
-
-abbrev pub readOnly : Register → Bool
-readOnly x = readableReg x && not (writableReg x)
+use Rattle.chip.specs.declared.Chip.{Chip}
+use Rattle.access.specs.Access.{selectedBy, strange}
+use Rattle.access.specs.Refusals.{listed, writeOnly, readOnly, row, isRefused}
+use Rattle.himib.specs.declared.Stepped.{Stepped}
+use Rattle.himib.specs.Step.{turned}
 
 abbrev pub dWrite : List ℕ → Bool
-dWrite bs = eqb (byteIn bs kind) 5
+dWrite bs = eqb (byteIn bs kind) dWriteKind
 
 abbrev pub dRead : List ℕ → Bool
-dRead bs = eqb (byteIn bs kind) 7
+dRead bs = eqb (byteIn bs kind) dReadKind
 
 unfoldable pub accessRefusals : Host → List ℕ → List Row
 accessRefusals h bs =
     row 5 ((dWrite bs || dRead bs) && not (listed (selectedBy h)))
     ∷ row 6 (dRead bs && writeOnly (selectedBy h) || dWrite bs && readOnly (selectedBy h))
-    ∷ row 4 (dWrite bs && takesCommands (selectedBy h) && not (isListed (commandOf (byteIn bs written))))
+    ∷ row 4 (dWrite bs && strange (selectedBy h .role) (byteIn bs written))
     ∷ []
 
 -- 9, 8, 3, 2, 1 and 7, then 5, 6 and 4
 unfoldable pub refusalsOf : Host → List ℕ → List Row
 refusalsOf h bs = refusals bs ++ accessRefusals h bs
-
-abbrev pub turned : Chip → Host → ℕ → Stepped
-turned s h k = record { chip = s; host = h; answer = Refused k }
-
-abbrev pub isRefused : Answer → Bool
-isRefused Done = false
-isRefused (Sent w out) = false
-isRefused (Value v) = false
-isRefused (Refused k) = true
 
 abbrev pub Settled : Option ℕ → Chip → Host → Stepped → Type 0
 Settled none s h t = isRefused (t .answer) ≡ false

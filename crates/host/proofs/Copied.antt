@@ -11,7 +11,8 @@ use lib.ListN.{length, getD, take, drop, replicate}
 use lib.Seq.{drop-cons}
 use Rattle.host.specs.declared.Host.{Host}
 use Rattle.host.specs.declared.Reading.{Reading}
-use Rattle.host.specs.Bytes.{spreadOf, spelt}
+use Rattle.spelling.specs.Spelling.{spelt}
+use Rattle.host.specs.Bytes.{spreadOf}
 use Rattle.host.specs.Sequence.{powerUp, withSequence, placeFor, isLast, nextPlace, copied, readByte}
 use Rattle.host.specs.InARow.{readBytes, afterReads}
 use Rattle.host.proofs.Places.{next-on, next-over, goes-on}

@@ -1,5 +1,6 @@
 -- Laws and theorems on the host's registers. Laws that the functions' proofs cite: Pages, Places. Theorems: Listed (the map),
--- Spelling (least significant first), Afresh (selection and turns), Copied (reads in a row), Collected (writes in a row), Sound.
+pub mod Computing
+-- Spelling (the weights of four bytes), Afresh (selection and turns), Copied (reads in a row), Collected (writes in a row), Sound.
 pub mod Pages
 pub mod Places
 pub mod Listed

@@ -1,15 +1,17 @@
 -- The table page by page: what is left of the lookup once P is known. Assumes nothing.
 use Prim.Native.Nat.{ℕ, _-_, _≤_, _<_}
-use mathlib.Core.Path.{_≡_, refl, sym, _∙_}
-use mathlib.Core.Bool.{Bool, true, false, _&&_, cond, or-false}
-use mathlib.Core.List.{List, [], _∷_}
+use mathlib.Core.Path.{_≡_, refl, sym, _∙_, ap}
+use mathlib.Core.Bool.{Bool, true, false, _&&_, or-false}
+use mathlib.Core.List.{[], _∷_}
 use native.Mathlib.Omega.{arith}
 use borrow.Author.Tests.{le-leb, leb-true, leb-false, lt-ltb, ltb-true, ltb-false, ne-eqb, eqb-true, eqb-false}
 use lib.Dec.{leb, ltb, eqb, leb·zero}
-use Rattle.host.specs.declared.Register.{Register}
+use Rattle.ports.specs.Sets.{aui}
 use Rattle.host.specs.declared.Register.the-variants.{Unlisted, Change, Enable, Counter, Address}
-use Rattle.host.specs.Map.{_to_, only, within, Row, lists, found, table, portPages, portOf, bitRegisters, registerAt, rowAt}
-use Rattle.host.specs.Parts.{portRegister}
+use Rattle.host.specs.Map.{_to_, only, within, Line, table, lineAt, portPages, portOf}
+use Rattle.host.specs.Map.{bitRegisters, lastCounter, addressRegister, rowOn, noRow, rowAt, registerAt}
+use Rattle.host.specs.Stands.{rowOf}
+use Rattle.host.specs.Parts.{portRow}
 
 -- Some places of the map: the first counter and the last, AUI's address, and neighbours that are not listed.
 some-places : (registerAt 16 0 ≡ Counter 0 0)
@@ -19,7 +21,7 @@ some-places : (registerAt 16 0 ≡ Counter 0 0)
     × (registerAt 16 13 ≡ Unlisted)
     × (registerAt 24 0 ≡ Unlisted)
     × (registerAt 1 5 ≡ Unlisted)
-unfolding registerAt rowAt table
+unfolding rowAt table
 some-places = (refl, refl, refl, refl, refl, refl, refl)
 
 neither : (x y : Bool) → (x ≡ true → y ≡ true → ⊥) → (x && y) ≡ false
@@ -64,58 +66,65 @@ bits-below n h = go (leb n 4) (ltb n 8) refl refl
         let m = ltb-false n 8 q in
         rw (q, off-range 0 4 n (λ x y. omega arith), off-range 6 7 n (λ x y. omega arith))
 
--- the lookup as a chain of choices
-abbrev looked : List Row → ℕ → ℕ → Register
-looked [] p r = Unlisted
-looked (w ∷ ws) p r = cond (lists w p r) (w .what p r) (looked ws p r)
-
-looks : (ws : List Row) (p r : ℕ) → found ws p r .what p r ≡ looked ws p r
-looks [] p r = refl
-looks (w ∷ ws) p r = go (lists w p r) (looks ws p r)
-  where
-    go : (b : Bool) → found ws p r .what p r ≡ looked ws p r → cond b w (found ws p r) .what p r ≡ cond b (w .what p r) (looked ws p r)
-    go true h = refl
-    go false h = h
-
-chain : (p r : ℕ) → registerAt p r ≡ looked table p r
-unfolding registerAt rowAt
-chain p r = looks table p r
-
 -- page 0, where R is none of the five
-pub chip-unlisted : (r : ℕ) → (r ≡ 12 → ⊥) → (r ≡ 13 → ⊥) → (r ≡ 28 → ⊥) → (r ≡ 30 → ⊥) → (r ≡ 31 → ⊥) → registerAt 0 r ≡ Unlisted
-unfolding table
-chip-unlisted r a b c d e =
-    chain 0 r ∙ simp (off-only 12 r a, off-only 13 r b, off-only 28 r c, off-only 30 r d, off-only 31 r e)
+pub chip-unlisted : (r : ℕ) → (r ≡ 12 → ⊥) → (r ≡ 13 → ⊥) → (r ≡ 28 → ⊥) → (r ≡ 30 → ⊥) → (r ≡ 31 → ⊥) → rowAt 0 r ≡ noRow
+unfolding rowAt table
+chip-unlisted r a b c d e = simp (off-only 12 r a, off-only 13 r b, off-only 28 r c, off-only 30 r d, off-only 31 r e)
 
 -- pages 1 and 2
-pub change-page : (r : ℕ) → registerAt 1 r ≡ cond (within bitRegisters r) (Change r) Unlisted
+module _ (r : ℕ) where
+  pub change-listed : within bitRegisters r ≡ true → rowAt 1 r ≡ rowOf (Change r)
+  unfolding rowAt table rowOf
+  change-listed e = rw e
+
+  pub change-unlisted : within bitRegisters r ≡ false → rowAt 1 r ≡ noRow
+  unfolding rowAt table
+  change-unlisted e = rw e
+
+  pub enable-listed : within bitRegisters r ≡ true → rowAt 2 r ≡ rowOf (Enable r)
+  unfolding rowAt table rowOf
+  enable-listed e = rw e
+
+  pub enable-unlisted : within bitRegisters r ≡ false → rowAt 2 r ≡ noRow
+  unfolding rowAt table
+  enable-unlisted e = rw e
+
+-- a port's page, by the port
+module _ (i r : ℕ) where
+  pub port-counter : r ≤ lastCounter → portRow i r ≡ rowOf (Counter i r)
+  unfolding portRow table rowOf
+  port-counter l = rw (le-leb r lastCounter l, leb·zero r)
+
+  pub port-address : r ≡ addressRegister → portRow i r ≡ rowOf (Address i)
+  unfolding portRow table rowOf
+  port-address e = rw e
+
+  pub port-unlisted : (r ≤ lastCounter → ⊥) → (r ≡ addressRegister → ⊥) → portRow i r ≡ noRow
+  unfolding portRow table
+  port-unlisted a b = simp (off-range 0 lastCounter r (λ l u. a u), off-only addressRegister r b)
+
+-- every port's page
+same-line : (p r : ℕ) → within portPages p ≡ true → (p ≡ 0 → ⊥) → (p ≡ 1 → ⊥) → (p ≡ 2 → ⊥) → lineAt p r ≡ lineAt 16 r
 unfolding table
-change-page r = chain 1 r
+same-line p r h a b c = simp (off-only 0 p a, off-only 1 p b, off-only 2 p c, h)
 
-pub enable-page : (r : ℕ) → registerAt 2 r ≡ cond (within bitRegisters r) (Enable r) Unlisted
-unfolding table
-enable-page r = chain 2 r
+on-port : (p r : ℕ) → within portPages p ≡ true → (p ≡ 0 → ⊥) → (p ≡ 1 → ⊥) → (p ≡ 2 → ⊥) → rowAt p r ≡ portRow (portOf p) r
+unfolding rowAt portRow
+on-port p r h a b c = ap (λ (l : Line). rowOn l (portOf p) r) (same-line p r h a b c)
 
--- a port's page
-on-port : (p r : ℕ) → within portPages p ≡ true → (p ≡ 0 → ⊥) → (p ≡ 1 → ⊥) → (p ≡ 2 → ⊥) → registerAt p r ≡ portRegister (portOf p) r
-unfolding table portRegister
-on-port p r h a b c =
-    chain p r ∙ simp (off-only 0 p a, off-only 1 p b, off-only 2 p c, h, up-to 12 r, only-eqb 14 r)
-
-pub tp-page : (p r : ℕ) → 16 ≤ p → p < 24 → registerAt p r ≡ portRegister (p - 16) r
+pub tp-page : (p r : ℕ) → 16 ≤ p → p < 24 → rowAt p r ≡ portRow (p - 16) r
 tp-page p r l u =
     on-port p r (rw (in-range 16 23 p l (omega arith))) (λ e. omega arith) (λ e. omega arith) (λ e. omega arith)
     ∙ rw (ne-eqb p 31 (λ e. omega arith))
 
-pub aui-page : (r : ℕ) → registerAt 31 r ≡ portRegister 8 r
+pub aui-page : (r : ℕ) → rowAt 31 r ≡ portRow aui r
 aui-page r = on-port 31 r refl (λ e. omega arith) (λ e. omega arith) (λ e. omega arith)
 
 -- any other page
-pub no-page : (p r : ℕ) → (p ≡ 0 → ⊥) → (p ≡ 1 → ⊥) → (p ≡ 2 → ⊥) → (16 ≤ p → p < 24 → ⊥) → (p ≡ 31 → ⊥) → registerAt p r ≡ Unlisted
-unfolding table
+pub no-page : (p r : ℕ) → (p ≡ 0 → ⊥) → (p ≡ 1 → ⊥) → (p ≡ 2 → ⊥) → (16 ≤ p → p < 24 → ⊥) → (p ≡ 31 → ⊥) → rowAt p r ≡ noRow
+unfolding rowAt table
 no-page p r a b c d e =
-    chain p r
-    ∙ simp (
+    simp (
       off-only 0 p a,
       off-only 1 p b,
       off-only 2 p c,

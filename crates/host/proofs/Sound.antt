@@ -9,7 +9,7 @@ use borrow.Author.Tests.{lt-ltb}
 use lib.Dec.{eqb, ltb}
 use lib.ListN.{length, set, length-set}
 use Rattle.host.specs.declared.Host.{Host}
-use Rattle.host.specs.Map.{registerAt, rowAt, table, rowOf, sizeOf}
+use Rattle.host.specs.Map.{rowAt, table}
 use Rattle.host.specs.Sequence.{powerUp, withSelection, withSequence, restarted, selected, placeFor, isLast, nextPlace, copied, readByte, wroteByte}
 use Rattle.host.specs.Sound.{Sound, selectedSize, Access, reset, select, read, write, afterAccesses}
 use Rattle.host.proofs.Listed.{size-six}
@@ -47,7 +47,7 @@ sound-sequence : (h : Host) (bs : List ℕ) (i : ℕ) (w : Bool) → Sound h →
 unfolding selectedSize
 sound-sequence h bs i w s e =
     let k = next-cases (selectedSize h) i in
-    let z = size-six (registerAt (h .page) (h .register)) in
+    let z = size-six (h .page) (h .register) in
     record {
       page = s .page;
       register = s .register;
@@ -90,7 +90,7 @@ abbrev two-bytes : Host
 two-bytes = afterAccesses (select 0x10 ∷ select 0xee ∷ write 7 ∷ write 8 ∷ []) powerUp
 
 two-written : two-bytes ≡ record { page = 16; register = 14; bytes = 7 ∷ 8 ∷ 0 ∷ 0 ∷ 0 ∷ 0 ∷ []; place = 2; writing = true }
-unfolding afterAccesses selected selectedSize sizeOf rowOf registerAt rowAt table wroteByte placeFor nextPlace isLast
+unfolding afterAccesses selected selectedSize rowAt table wroteByte placeFor nextPlace isLast
 two-written = refl
 
 pub sound-from-power-up : (xs : List Access) → Sound (afterAccesses xs powerUp)
@@ -103,7 +103,7 @@ inside-stays zero n h = either-first (ltb 0 n)
 inside-stays (suc i) n h = rw (lt-ltb (suc i) n (h (omega arith)))
 
 third-of-six : placeFor (two-bytes .writing) (selectedSize two-bytes) two-bytes ≡ 2
-unfolding afterAccesses selected selectedSize sizeOf rowOf registerAt rowAt table wroteByte placeFor nextPlace isLast
+unfolding afterAccesses selected selectedSize rowAt table wroteByte placeFor nextPlace isLast
 third-of-six = refl
 
 pub never-past : (h : Host) → Sound h → placeFor (h .writing) (selectedSize h) h ≡ h .place

@@ -1,10 +1,9 @@
--- Document 01, 'Host registers': a port's page as the code asks about it. `proofs/Pages.antt` shows that the table says the same.
+-- Document 01, 'Host registers': a port's page as the code asks about it, by the port: TP0's page says for every port what stands
+-- at an R. `proofs/Pages.antt` shows that the table says the same of each port's own page.
 -- Assumes nothing.
 use Prim.Native.Nat.{ℕ}
-use mathlib.Core.Bool.{cond}
-use lib.Dec.{leb, eqb}
-use Rattle.host.specs.declared.Register.{Register}
-use Rattle.host.specs.declared.Register.the-variants.{Unlisted, Counter, Address}
+use Rattle.host.specs.declared.Row.{Row}
+use Rattle.host.specs.Map.{lineAt, rowOn, tp0Page}
 
-unfoldable pub portRegister : ℕ → ℕ → Register
-portRegister q r = cond (leb r 12) (Counter q r) (cond (eqb r 14) (Address q) Unlisted)
+unfoldable pub portRow : ℕ → ℕ → Row
+portRow i r = rowOn (lineAt tp0Page r) i r

@@ -1,43 +1,44 @@
--- Document 01, 'Host registers': a record that only power-up, resets and accesses have altered.
--- Settles what such a record keeps to: a selection that C writes can make, and a byte place inside the selected register.
---     selectedSize h     == the bytes of the register that the record selects
---     Access             == what alters the record; an access that is turned away is none
---     afterAccess a h    == the record after it
---     afterAccesses xs h == the record after several
---     Sound h            == what it keeps to
+-- Document 01, 'Host registers': the records that can come about: one is made at power-up, and from then on each reset and each
+-- access that is not turned away makes the next.
+-- Settles what these keep to: a selection that C writes can make, and a byte place inside the selected register.
+--     selectedSize host           == the bytes of the register that the record selects
+--     Access                      == what alters the record; an access that is turned away is none
+--     afterAccess access host     == the record after it
+--     afterAccesses accesses host == the record after several
+--     Sound host                  == what it keeps to
 -- Assumes nothing.
 use Prim.Native.Nat.{ℕ, _<_}
 use mathlib.Core.Path.{_≡_}
 use mathlib.Core.List.{List, [], _∷_}
 use lib.ListN.{length}
 use Rattle.host.specs.declared.Host.{Host}
-use Rattle.host.specs.Map.{registerAt, sizeOf}
-use Rattle.host.specs.Sequence.{powerUp, selected, readByte, wroteByte}
+use Rattle.host.specs.Map.{rowAt}
+use Rattle.host.specs.Sequence.{powerUp, selectedBelow, selected, readByte, wroteByte}
 
 unfoldable pub selectedSize : Host → ℕ
-selectedSize h = sizeOf (registerAt (h .page) (h .register))
+selectedSize host = rowAt (host .page) (host .register) .size
 
 -- a reset; a C write; a D read while the register holds six bytes; a D write
 pub data Access : Type 0 where
   reset : Access
   select : ℕ → Access
-  read : (v : List ℕ) → length v ≡ 6 → Access
+  read : (value : List ℕ) → length value ≡ 6 → Access
   write : ℕ → Access
 
 abbrev pub afterAccess : Access → Host → Host
-afterAccess reset h = powerUp
-afterAccess (select b) h = selected b h
-afterAccess (read v e) h = readByte (selectedSize h) v h .host
-afterAccess (write b) h = wroteByte (selectedSize h) b h .host
+afterAccess reset host = powerUp
+afterAccess (select byte) host = selected byte host
+afterAccess (read value six) host = readByte (selectedSize host) value host .host
+afterAccess (write byte) host = wroteByte (selectedSize host) byte host .host
 
 unfoldable pub afterAccesses : List Access → Host → Host
-afterAccesses [] h = h
-afterAccesses (a ∷ xs) h = afterAccesses xs (afterAccess a h)
+afterAccesses [] host = host
+afterAccesses (access ∷ accesses) host = afterAccesses accesses (afterAccess access host)
 
 -- a register that is not listed has no byte, so that there the place is 0
-pub record Sound (h : Host) : Type 0 where
-  pub page : h .page < 32
-  pub register : h .register < 32
-  pub six : length (h .bytes) ≡ 6
-  pub place : h .place < 6
-  pub inside : 0 < h .place → h .place < selectedSize h
+pub record Sound (host : Host) : Type 0 where
+  pub page : host .page < selectedBelow
+  pub register : host .register < selectedBelow
+  pub six : length (host .bytes) ≡ 6
+  pub place : host .place < 6
+  pub inside : 0 < host .place → host .place < selectedSize host

@@ -1,11 +1,11 @@
 // The host's side of the registers: the small record of an access (selection, copied bytes, byte place, direction), the map
-// from a page P and a register number R to a register, and the byte sequences. What the registers hold is the caller's.
+// from a page P and a register number R to a register's row, and the byte sequences. What the registers hold is the caller's.
 ghost use mathlib.Core.Path.{_≡_};
 ghost use Prim.Native.Nat.{_%_};
 ghost use lib.ListN.{getD, set};
 ghost use Rattle.host.specs.Bytes.{spreadOf, singleOf};
-ghost use Rattle.host.specs.Map.{registerAt, within, bitRegisters, sizeOf, readableReg, writableReg};
-ghost use Rattle.host.specs.Parts.{portRegister};
+ghost use Rattle.host.specs.Map.{rowAt, row, noRow, read, write, both, within, bitRegisters};
+ghost use Rattle.host.specs.Parts.{portRow};
 ghost use Rattle.host.specs.Sequence.{powerUp, restarted, selected, placeFor, isLast, nextPlace, copied, readByte, wroteByte};
 
 // What only power-up, resets and accesses alter: the selection, the six copied bytes, the place of the next byte, and whether
@@ -33,6 +33,26 @@ pub enum Register {
     Address(u8),
 }
 
+// What an access to a register does to the chip, beside giving its value: nothing; the read clears the change bits of an R; the
+// write is a command (through G, or else through S); it sets the enables of an R; it sets the address of a port.
+pub enum Role {
+    Plain,
+    Cleared(u8),
+    Commands(bool),
+    Enables(u8),
+    Address(u8),
+}
+
+// A row of the map: a register, how many bytes it has, the ways in which it may be accessed, its role. What is not listed has
+// no bytes.
+pub struct Row {
+    pub register: Register,
+    pub size: u8,
+    pub readable: bool,
+    pub writable: bool,
+    pub role: Role,
+}
+
 // A byte that was read, and the record after it.
 pub struct Reading {
     pub host: Host,
@@ -45,9 +65,76 @@ pub struct Writing {
     pub complete: bool,
 }
 
+impl Row {
+    // The page of TP0; those of the other TP ports follow it.
+    const TP0_PAGE: u8 = 16;
+
+    // The page of TP7.
+    const TP7_PAGE: u8 = 23;
+
+    // AUI's page.
+    const AUI_PAGE: u8 = 31;
+
+    // A register that may be read, written, both: its bytes and its role.
+    fn read(register: Register, size: u8, role: Role) -> Row
+        ensures { λ r. ⌜ r ≡ row register size read role ⌝ }
+    {
+        Row {
+            register,
+            size,
+            readable: true,
+            writable: false,
+            role,
+        }
+    }
+
+    fn write(register: Register, size: u8, role: Role) -> Row
+        ensures { λ r. ⌜ r ≡ row register size write role ⌝ }
+    {
+        Row {
+            register,
+            size,
+            readable: false,
+            writable: true,
+            role,
+        }
+    }
+
+    fn both(register: Register, size: u8, role: Role) -> Row
+        ensures { λ r. ⌜ r ≡ row register size both role ⌝ }
+    {
+        Row {
+            register,
+            size,
+            readable: true,
+            writable: true,
+            role,
+        }
+    }
+
+    // What is not listed.
+    fn unlisted() -> Row
+        ensures { λ r. ⌜ r ≡ noRow ⌝ }
+    {
+        Row {
+            register: Register::Unlisted,
+            size: 0,
+            readable: false,
+            writable: false,
+            role: Role::Plain,
+        }
+    }
+}
+
 impl Host {
     // The place of a sequence's first byte.
     const FIRST: u8 = 0;
+
+    // P and R, as C writes select them, are below this.
+    const SELECTED_BELOW: u8 = 32;
+
+    // C writes from this on select R.
+    const R_FROM: u8 = 224;
 
     // The record at power-up and after a reset.
     pub fn power_up() -> Host
@@ -63,31 +150,31 @@ impl Host {
     }
 }
 
-// The register that P and R select. A P or an R above 31 selects one that is not listed.
-pub fn register_at(page: u8, register: u8) -> Register
-    ensures { λ r. ⌜ r ≡ registerAt page register ⌝ }
+// The row of the register that P and R select. A P or an R above 31 selects one that is not listed.
+pub fn row_at(page: u8, register: u8) -> Row
+    ensures { λ r. ⌜ r ≡ rowAt page register ⌝ }
 {
     match page {
-        0 => chip_register(register),
-        1 => change_register(register),
-        2 => enable_register(register),
-        16..=23 => port_register(page - 16, register),
-        31 => port_register(8, register),
-        _ => Register::Unlisted,
+        0 => chip_row(register),
+        1 => change_row(register),
+        2 => enable_row(register),
+        Row::TP0_PAGE..=Row::TP7_PAGE => port_row(page - Row::TP0_PAGE, register),
+        Row::AUI_PAGE => port_row(ports::AUI as u8, register),
+        _ => Row::unlisted(),
     }
 }
 
 // Page 0.
-fn chip_register(register: u8) -> Register
-    ensures { λ r. ⌜ r ≡ registerAt 0 register ⌝ }
+fn chip_row(register: u8) -> Row
+    ensures { λ r. ⌜ r ≡ rowAt 0 register ⌝ }
 {
     match register {
-        12 => Register::TransmitCollisions,
-        13 => Register::TotalOctets,
-        28 => Register::Version,
-        30 => Register::SetPort,
-        31 => Register::GetPort,
-        _ => Register::Unlisted,
+        12 => Row::read(Register::TransmitCollisions, 4, Role::Plain),
+        13 => Row::read(Register::TotalOctets, 4, Role::Plain),
+        28 => Row::read(Register::Version, 1, Role::Plain),
+        30 => Row::write(Register::SetPort, 1, Role::Commands(false)),
+        31 => Row::both(Register::GetPort, 1, Role::Commands(true)),
+        _ => Row::unlisted(),
     }
 }
 
@@ -102,89 +189,33 @@ fn has_bits(register: u8) -> bool
 }
 
 // Page 1.
-fn change_register(register: u8) -> Register
-    ensures { λ r. ⌜ r ≡ registerAt 1 register ⌝ }
+fn change_row(register: u8) -> Row
+    ensures { λ r. ⌜ r ≡ rowAt 1 register ⌝ }
 {
     if has_bits(register) {
-        return Register::Change(register);
+        return Row::read(Register::Change(register), 1, Role::Cleared(register));
     }
-    Register::Unlisted
+    Row::unlisted()
 }
 
 // Page 2.
-fn enable_register(register: u8) -> Register
-    ensures { λ r. ⌜ r ≡ registerAt 2 register ⌝ }
+fn enable_row(register: u8) -> Row
+    ensures { λ r. ⌜ r ≡ rowAt 2 register ⌝ }
 {
     if has_bits(register) {
-        return Register::Enable(register);
+        return Row::both(Register::Enable(register), 1, Role::Enables(register));
     }
-    Register::Unlisted
+    Row::unlisted()
 }
 
 // A port's page.
-fn port_register(port: u8, register: u8) -> Register
-    ensures { λ r. ⌜ r ≡ portRegister port register ⌝ }
-{
-    if register <= 12 {
-        return Register::Counter(port, register);
-    }
-    if register == 14 {
-        return Register::Address(port);
-    }
-    Register::Unlisted
-}
-
-// How many bytes a register has; one that is not listed has none.
-pub fn size(register: Register) -> u8
-    ensures { λ r. ⌜ r ≡ sizeOf register ⌝ }
+fn port_row(port: u8, register: u8) -> Row
+    ensures { λ r. ⌜ r ≡ portRow port register ⌝ }
 {
     match register {
-        Register::Unlisted => 0,
-        Register::TransmitCollisions => 4,
-        Register::TotalOctets => 4,
-        Register::Version => 1,
-        Register::SetPort => 1,
-        Register::GetPort => 1,
-        Register::Change(_) => 1,
-        Register::Enable(_) => 1,
-        Register::Counter(_, _) => 4,
-        Register::Address(_) => 6,
-    }
-}
-
-// Whether a register may be read.
-pub fn readable(register: Register) -> bool
-    ensures { λ r. ⌜ r ≡ readableReg register ⌝ }
-{
-    match register {
-        Register::Unlisted => false,
-        Register::TransmitCollisions => true,
-        Register::TotalOctets => true,
-        Register::Version => true,
-        Register::SetPort => false,
-        Register::GetPort => true,
-        Register::Change(_) => true,
-        Register::Enable(_) => true,
-        Register::Counter(_, _) => true,
-        Register::Address(_) => true,
-    }
-}
-
-// Whether a register may be written.
-pub fn writable(register: Register) -> bool
-    ensures { λ r. ⌜ r ≡ writableReg register ⌝ }
-{
-    match register {
-        Register::Unlisted => false,
-        Register::TransmitCollisions => false,
-        Register::TotalOctets => false,
-        Register::Version => false,
-        Register::SetPort => true,
-        Register::GetPort => true,
-        Register::Change(_) => false,
-        Register::Enable(_) => true,
-        Register::Counter(_, _) => false,
-        Register::Address(_) => true,
+        0..=12 => Row::read(Register::Counter(port, register), 4, Role::Plain),
+        14 => Row::both(Register::Address(port), 6, Role::Address(port)),
+        _ => Row::unlisted(),
     }
 }
 
@@ -201,12 +232,12 @@ fn restarted(mut host: Host) -> Host
 pub fn select(mut host: Host, byte: u8) -> Host
     ensures { λ r. ⌜ r ≡ selected byte host ⌝ }
 {
-    if byte < 32 {
+    if byte < Host::SELECTED_BELOW {
         host.page = byte;
         return restarted(host);
     }
-    if 224 <= byte {
-        host.register = byte - 224;
+    if Host::R_FROM <= byte {
+        host.register = byte - Host::R_FROM;
         return restarted(host);
     }
     host
@@ -309,14 +340,14 @@ pub fn write_byte(mut host: Host, size: u8, byte: u8) -> Writing
 }
 
 // A number of four bytes, least significant first, and two zeros.
-pub fn spread(v: u32) -> [u8; 6]
-    ensures { λ r. ⌜ r ≡ spreadOf v ⌝ }
+pub fn spread(number: u32) -> [u8; 6]
+    ensures { λ r. ⌜ r ≡ spreadOf number ⌝ }
 {
-    let second = v / 256;
+    let second = number / 256;
     let third = second / 256;
     let fourth = third / 256;
     [
-        low_byte(v),
+        low_byte(number),
         low_byte(second),
         low_byte(third),
         low_byte(fourth),
@@ -326,10 +357,10 @@ pub fn spread(v: u32) -> [u8; 6]
 }
 
 // The lowest byte of a number.
-fn low_byte(v: u32) -> u8
-    ensures { λ r. ⌜ r ≡ v % 256 ⌝ }
+fn low_byte(number: u32) -> u8
+    ensures { λ r. ⌜ r ≡ number % 256 ⌝ }
 {
-    (v % 256) as u8
+    (number % 256) as u8
 }
 
 // One byte, and five zeros.

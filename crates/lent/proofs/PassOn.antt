@@ -1,6 +1,5 @@
--- Calls of `take`, and the end of a walk that passes its lent record on to it: a request stands in local 4, the record's reference is handed to `take` with
--- the
--- chip of local 2, and what `take` gives back is returned. Local 3 is the function's own, of any type.
+-- Calls of `take`, and the end of a walk that passes its lent record on to it: a request stands in local 4, the record's reference is handed to `take`
+-- with the chip of local 2, and what `take` gives back is returned. Local 3 is the function's own, of any type.
 --   Take, to-take, goes-take == the contract of `take`, what it binds outside at a call, and that what it asks is had
 --   Said             == what it ensures of the answer and of the record that it leaves
 --   took             == `take` has returned
@@ -20,7 +19,8 @@ use prog.Routine.{Routine}
 use prog.Wp.{Heap, Env, Calls, Loops}
 use ghost.Atoms.{Atoms, sem}
 use contract.Monad.{Fun, fact}
-use types.Kit.{Given, Item, Goal, Seq, Soaks, Sq, runs, atRet, ⋆, ‵, raw, some, later, _⊛_, _$_, _∵_, !, qed, by, move, drop, use1, use2, split, join, pick, fsplit, fjoin, frame, await, done}
+use types.Kit.{Given, Item, Goal, Seq, Soaks, Sq, runs, atRet, ⋆, ‵, raw, some, later, _⊛_, _$_, _∵_, !, qed, by}
+use types.Kit.{move, drop, use1, use2, split, join, pick, fsplit, fjoin, frame, await, done}
 use types.Run.{look, init, addr, hop, forget, stop, from, load, and-then, no-more, assigns, land, returns, free1, free0}
 use sound.WpLaws.{FmC}
 use denote.Laws.{Is, shows}
@@ -32,12 +32,12 @@ use denote.Triple.Spec.{tripleOf}
 use denote.Triple.Clauses.{ensured, lasts}
 use Rattle.host.specs.declared.Host.{Host}
 use Rattle.host.proofs.Host as Hst
-use Rattle.himib.specs.declared.step.Chip.{Chip}
-use Rattle.himib.proofs.step.Chip as Chp
+use Rattle.chip.specs.declared.Chip.{Chip}
+use Rattle.chip.proofs.Chip as Chp
 use Rattle.record.specs.declared.Record.{Record}
 use Rattle.record.proofs.Record as Rqs
 use Rattle.lent.specs.declared.Rest.{Rest}
-use Rattle.lent.specs.Lent.{together, served}
+use Rattle.lent.specs.Lent.{together, requested}
 use Rattle.lent.proofs.Rest as Rst
 use Rattle.lent.proofs.Walk.{chipVal, hostTy, chipTy, requestTy, restTy, givenTy, lentTy, lentAt, restFits, chipOwned, requestOwned}
 use Rattle.lent.proofs.take as take
@@ -67,7 +67,7 @@ module _ {M : Type 1} (𝓤 : URA M) (H : Heap 𝓤) (A : Atoms 𝓤) (W : Given
       move ! (2 ∷ 0 ∷ []) $ fjoin ! $ move ! (1 ∷ 0 ∷ []) $ join ! $ frame ! $ done !
 
   abbrev pub Said : Rest → Host → Type 0
-  Said a z = together a z ≡ served r c h
+  Said a z = together a z ≡ requested r c h
 
   abbrev Ensured : Rest → SProp 𝓤
   Ensured a = ensured 𝓤 H A take.ended (take.clauses 𝓤 H A at-mem run) (κ, tt) (lentAt b o γ h, (c, (r, tt))) tt a

@@ -38,16 +38,16 @@ use denote.Triple.Walked.{says, Stays, gave-ref, stay-dropped, walkOf, AllGo, go
 use denote.Exit.{yes}
 use Rattle.host.specs.declared.Host.{Host}
 use Rattle.host.proofs.Host as Hst
-use Rattle.himib.specs.declared.step.Chip.{Chip}
-use Rattle.himib.proofs.step.Chip as Chp
-use Rattle.himib.proofs.step.Chip.Laws as Chp′
-use Rattle.record.specs.declared.Asked.{Asked}
+use Rattle.chip.specs.declared.Chip.{Chip}
+use Rattle.chip.proofs.Chip as Chp
+use Rattle.chip.proofs.Chip.Laws as Chp′
+use Rattle.record.specs.declared.Access.{Access}
 use Rattle.record.specs.declared.Record.{Record}
-use Rattle.record.proofs.Asked as Ask
-use Rattle.record.proofs.Asked.Laws as Ask′
+use Rattle.record.proofs.Access as Acc
+use Rattle.record.proofs.Access.Laws as Acc′
 use Rattle.record.proofs.Record as Rqs
 use Rattle.lent.specs.declared.Rest.{Rest}
-use Rattle.lent.specs.Lent.{together, served, bare}
+use Rattle.lent.specs.Lent.{together, requested, requestFor}
 use Rattle.lent.proofs.Rest as Rst
 use Rattle.lent.proofs.Walk.{chipVal, chipTy, requestTy, restTy, givenTy, lentTy, lentAt, requestFits, chipFits, restOwned, answered}
 use Rattle.lent.proofs.PassOn.{Take, passed-on, passes-on}
@@ -63,7 +63,7 @@ reads k = record {
   params = 2;
   locals =
       local restTy valueLocal ∷ local givenTy valueLocal ∷ local chipTy valueLocal
-      ∷ local Ask′.mir valueLocal ∷ local requestTy valueLocal ∷ local lentTy valueLocal ∷ [];
+      ∷ local Acc′.mir valueLocal ∷ local requestTy valueLocal ∷ local lentTy valueLocal ∷ [];
   body = seq (assign (place 3 []) (aggregate (int w8 k ∷ []))) (seq (call #maker (copy (place 3 []) ∷ []) (place 4 [])) passed-on);
 }
 
@@ -75,22 +75,22 @@ abbrev tagged : ℕ → Val
 tagged k = vstruct (ofList (vint w8 k ∷ []))
 
 module _ {M : Type 1} (𝓤 : URA M) where
-  abbrev pub reading : Asked → Clauses 𝓤 f.ended
+  abbrev pub reading : Access → Clauses 𝓤 f.ended
   reading a κs y = record {
     ghost = Unit {0};
     requires = λ _. emp 𝓤;
-    ensures = λ _ r e. fact 𝓤 (together r (e .0 .now) ≡ served (bare a) (y .1 .0) (y .0 .now));
+    ensures = λ _ r e. fact 𝓤 (together r (e .0 .now) ≡ requested (requestFor a) (y .1 .0) (y .0 .now));
   }
 
 module _ {M : Type 1} (𝓤 : URA M) (H : Heap 𝓤) (A : Atoms 𝓤) (at-mem : Memory → SProp 𝓤) (run : Routine → Fun 𝓤) where
   abbrev pub Maker : Contract 𝓤
   Maker = tripleOf 𝓤 H A maker.signature (maker.spec 𝓤 H A at-mem run)
 
-  said : (a : Asked) (r : Record) → ent 𝓤 (ensured 𝓤 H A maker.ended (maker.clauses 𝓤 H A at-mem run) tt (a, tt) tt r) (fact 𝓤 (r ≡ bare a))
-  said a r = exE 𝓤 _ (λ ws. snd∗ 𝓤 (sem 𝓤 H A (lasts maker.ended tt (a, tt) ws)) (fact 𝓤 (r ≡ bare a)))
+  said : (a : Access) (r : Record) → ent 𝓤 (ensured 𝓤 H A maker.ended (maker.clauses 𝓤 H A at-mem run) tt (a, tt) tt r) (fact 𝓤 (r ≡ requestFor a))
+  said a r = exE 𝓤 _ (λ ws. snd∗ 𝓤 (sem 𝓤 H A (lasts maker.ended tt (a, tt) ws)) (fact 𝓤 (r ≡ requestFor a)))
 
 module _ {M : Type 1} (𝓤 : URA M) (H : Heap 𝓤) (A : Atoms 𝓤) (W : Given 𝓤 H A) (at-mem : Memory → SProp 𝓤) (run : Routine → Fun 𝓤)
-    (a : Asked) (k : ℕ) (small : T (ltb k (2 ^ 8))) (is-tag : Is Ask.the-row a (tagged k ∷ []))
+    (a : Access) (k : ℕ) (small : T (ltb k (2 ^ 8))) (is-tag : Is Acc.the-row a (tagged k ∷ []))
     (κ : Lft) (q : Share) (b o : ℕ) (γ : GName) (h : Host) (c : Chip) (gc : Is Chp.the-row c (chipVal c ∷ [])) where
   abbrev x : RefT Host × (Chip × Unit {0})
   x = (lentAt b o γ h, (c, tt))
@@ -101,7 +101,7 @@ module _ {M : Type 1} (𝓤 : URA M) (H : Heap 𝓤) (A : Atoms 𝓤) (W : Given
   abbrev Post : Val → SProp 𝓤
   Post = walkOf 𝓤 H A f.ended stayed (reading 𝓤 a) .post (((κ, tt), (q, tt), tt, x, at), tt)
 
-  exits : (r : Rest) (w : Val) (z : Host) → Is Rst.the-row r (w ∷ []) → together r z ≡ served (bare a) c h
+  exits : (r : Rest) (w : Val) (z : Host) → Is Rst.the-row r (w ∷ []) → together r z ≡ requested (requestFor a) c h
       → ent 𝓤 (⋆ 𝓤 H A (‵ (flft κ q) ∷ ‵ (fres γ (Hst.the-row .coded .code z)) ∷ ‵ ftrue ∷ [])) (Post w)
   exits r w z is e =
       qed W (‵ (flft κ q) ∷ ‵ (fres γ (Hst.the-row .coded .code z)) ∷ ‵ ftrue ∷ []) ∵
@@ -114,7 +114,7 @@ module _ {M : Type 1} (𝓤 : URA M) (H : Heap 𝓤) (A : Atoms 𝓤) (W : Given
 
   goes-g : ent 𝓤 (emp 𝓤) (Maker 𝓤 H A at-mem run .pre to-g)
   goes-g =
-      qed W [] ∵ nothing ! $ owned ! Ask.the-row (Is Ask.the-row) (EL.makes Ask.the-type Ask′.the-plain 𝓤 H A) a _ is-tag $ fjoin ! $
+      qed W [] ∵ nothing ! $ owned ! Acc.the-row (Is Acc.the-row) (EL.makes Acc.the-type Acc′.the-plain 𝓤 H A) a _ is-tag $ fjoin ! $
       nothing ! $ join ! $ frame ! $ done !
 
   module _ (C : Calls 𝓤 H) (Λ : Loops 𝓤 H) (fm : FmC 𝓤 H (W .laws) C)
@@ -127,20 +127,20 @@ module _ {M : Type 1} (𝓤 : URA M) (H : Heap 𝓤) (A : Atoms 𝓤) (W : Given
         pass1 ! (init ! 8 refl (tt, tt)) $ pass1 ! (init ! 6 refl (chipFits W c (chipVal c) gc)) $ pass0 ! $
         -- the request is made
         assigns ! (agg ! (and-then ! (lit ! small) (no-more !))) (from ! (stop !))
-        (init ! 4 refl (EL.lawful Ask.the-type Ask′.the-laws 𝓤 H A W tt .typed a _ is-tag .0)) $
+        (init ! 4 refl (EL.lawful Acc.the-type Acc′.the-laws 𝓤 H A W tt .typed a _ is-tag .0)) $
         use0 W (raw (Maker 𝓤 H A at-mem run .pre to-g)) goes-g $
         calls-at ! fm (Maker 𝓤 H A at-mem run) known-g to-g (and-then ! (load ! (from ! (stop !)) (look ! 5 refl)) (no-more !)) (λ v.
-        answered W (‵ ftrue) Rqs.the-row (λ r. ensured 𝓤 H A maker.ended (maker.clauses 𝓤 H A at-mem run) tt (a, tt) tt r) (λ r. r ≡ bare a)
+        answered W (‵ ftrue) Rqs.the-row (λ r. ensured 𝓤 H A maker.ended (maker.clauses 𝓤 H A at-mem run) tt (a, tt) tt r) (λ r. r ≡ requestFor a)
         (said 𝓤 H A at-mem run a) v tt ! (λ r e is. drop ! $
         land ! (from ! (stop !)) (init ! 2 refl (requestFits W r v is)) $
         -- [_5; …; _0; …; the token; what the parameters own]
         move ! (12 ∷ []) $ split ! $ move ! (14 ∷ []) $ fsplit ! $
         keep ! (2 ∷ 0 ∷ 3 ∷ 4 ∷ 5 ∷ 6 ∷ 7 ∷ 8 ∷ 9 ∷ 10 ∷ 11 ∷ 12 ∷ 13 ∷ 14 ∷ 15 ∷ []) $
-        passes-on 𝓤 H A W at-mem run κ q b o γ h c gc r v is C Λ fm known Ask′.mir (tagged k) (‵ ftrue) Post l₀ l₁ l₂ l₃ l₄ l₅
-        (λ s w z ia e′. exits s w z ia (e′ ∙ ap (λ (r′ : Record). served r′ c h) e))))))))))
+        passes-on 𝓤 H A W at-mem run κ q b o γ h c gc r v is C Λ fm known Acc′.mir (tagged k) (‵ ftrue) Post l₀ l₁ l₂ l₃ l₄ l₅
+        (λ s w z ia e′. exits s w z ia (e′ ∙ ap (λ (r′ : Record). requested r′ c h) e))))))))))
 
 module _ {M : Type 1} (𝓤 : URA M) (H : Heap 𝓤) (A : Atoms 𝓤) (W : Given 𝓤 H A) (at-mem : Memory → SProp 𝓤) (run : Routine → Fun 𝓤)
-    (a : Asked) (k : ℕ) (small : T (ltb k (2 ^ 8))) (is-tag : Is Ask.the-row a (tagged k ∷ [])) where
+    (a : Access) (k : ℕ) (small : T (ltb k (2 ^ 8))) (is-tag : Is Acc.the-row a (tagged k ∷ [])) where
   goes : AllGo 𝓤 H A W 1 (f.signature .params) (f.ended .kept) stayed
   goes = (goes-gave-ref 𝓤 H A W 1 0 tt (plain (λ _. Hst.the-row)), (goes-dropped 𝓤 H A W 1 (plain (λ _. Chp.the-row)) yes (λ κs x f. refl), tt))
 

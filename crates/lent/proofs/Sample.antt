@@ -3,28 +3,22 @@
 use Prim.Native.Nat.{ℕ}
 use mathlib.Core.Path.{_≡_, refl}
 use mathlib.Core.List.{List, [], _∷_, _++_}
-use lib.ListN.{length, replicate}
-use Rattle.record.specs.Record.{bytesFrom, littleEndian, find, used, unused, allZero, stray}
-use Rattle.record.specs.Refusals.{recordOf, refusals, firstOf, answer, badNumbers, nothingActive, selectsNeither}
-use Rattle.host.specs.Map.{table, rowAt, registerAt, rowOf, sizeOf, readableReg}
-use Rattle.host.specs.Sequence.{powerUp, selected, placeFor, isLast, nextPlace, copied, readByte}
-use Rattle.attributes.specs.Credits.{noAttributes}
+use lib.ListN.{length, replicate, take}
+use Rattle.record.specs.Records.{cWriteRecord, dReadRecord}
 use Rattle.answer.specs.declared.Answer.the-variants.{Done, Value, Refused}
-use Rattle.himib.specs.Chip.{chipUp}
-use Rattle.himib.specs.Access.{valueOf, seen, readOf, dReadOf}
-use Rattle.himib.specs.Step.{actOn, readdressed, taken, stepOf}
-use Rattle.lent.specs.Lists.{pieces, cutOff, cut, answersTo, laid, laidAll}
-use Rattle.lent.proofs.AsBytes.{accessOf}
+use Rattle.chip.specs.Chip.{chipUp}
+use Rattle.himib.specs.Runs.{happening, historyOf, allAt}
+use Rattle.himib.proofs.Computing.{computing}
+use Rattle.lent.specs.Lists.{pieces, cutOff, answersToAll, laid, laidAll}
 
 abbrev list : List ℕ
-list = accessOf 4 0x10 ++ accessOf 4 0xe0 ++ accessOf 7 0 ++ 7 ∷ 0 ∷ 0 ∷ 0 ∷ 0 ∷ []
+list = cWriteRecord 0x10 ++ cWriteRecord 0xe0 ++ dReadRecord ++ take 5 dReadRecord
 
 four-pieces : pieces (length list) ≡ 4
 four-pieces = refl
 
-the-answers : answersTo (chipUp (replicate 9 noAttributes) 0 0) powerUp (cut list) ≡ Done ∷ Done ∷ Value 0 ∷ Refused 9 ∷ []
-unfolding cutOff answersTo stepOf taken actOn readdressed recordOf refusals firstOf answer bytesFrom littleEndian find used unused allZero stray badNumbers nothingActive
-    selectsNeither selected table rowAt registerAt rowOf sizeOf readableReg placeFor isLast nextPlace copied readByte valueOf seen readOf dReadOf
+the-answers : answersToAll (chipUp (allAt 0)) list ≡ Done ∷ Done ∷ Value 0 ∷ Refused 9 ∷ []
+unfolding cutOff happening historyOf computing
 the-answers = refl
 
 -- the buffer has room for three answers: the fourth is left out, and the last two bytes stay

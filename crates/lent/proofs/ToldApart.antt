@@ -1,31 +1,19 @@
--- The three bytes of an answer tell it from every other. Assumes nothing.
---   readBack t == the answer whose three bytes are t
-use Prim.Native.Nat.{ℕ, _+_, _*_, _/_, _%_}
+-- The bytes of an answer tell it from every other. Assumes nothing.
+use Prim.Native.Nat.{ℕ, _/_, _%_}
 use mathlib.Core.Path.{_≡_, refl, sym, _∙_, ap}
-use mathlib.Core.Bool.{cond}
+use mathlib.Core.List.{[], _∷_}
 use native.Mathlib.Omega.{arith}
-use lib.Dec.{eqb}
+use Rattle.spelling.specs.Spelling.{spelt}
 use Rattle.burst.specs.declared.Word.the-variants.{Nil, Rep, Jam}
 use Rattle.answer.specs.declared.Answer.{Answer}
 use Rattle.answer.specs.declared.Answer.the-variants.{Done, Sent, Value, Refused}
-use Rattle.lent.specs.declared.lists.Told.{Told}
-use Rattle.lent.specs.Lists.{toldOf}
-
-abbrev pub readBack : Told → Answer
-readBack t =
-    let x : ℕ = t .low + 256 * t .high in
-    cond (eqb (t .word) 0) Done
-    (cond (eqb (t .word) 1) (Sent Nil x)
-    (cond (eqb (t .word) 2) (Sent Rep x)
-    (cond (eqb (t .word) 3) (Sent Jam x)
-    (cond (eqb (t .word) 4) (Value x)
-    (Refused x)))))
+use Rattle.lent.specs.Lists.{toldOf, readBack}
 
 -- data to AUI and TP1
 mask-102 : readBack (toldOf (Sent Rep 0x102)) ≡ Sent Rep 0x102
 mask-102 = refl
 
-two-bytes : (x : ℕ) → x % 256 + 256 * (x / 256) ≡ x
+two-bytes : (x : ℕ) → spelt (x % 256 ∷ x / 256 ∷ []) ≡ x
 two-bytes x = omega arith
 
 pub read-back : (a : Answer) → readBack (toldOf a) ≡ a

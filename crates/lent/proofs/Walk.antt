@@ -1,7 +1,7 @@
 -- What the walks of this crate share: the machine values that they handle, what is known of each, and how the answer of a called function is taken.
 --   hostVal, chipVal, requestVal, restVal == the machine value of a record, a chip, a request, and of what comes back
---   hostTy, chipTy, requestTy, restTy     == the types of locals that hold them; givenTy and lentTy are those of a reference that is a parameter, and of one
--- made in a body
+--   hostTy, chipTy, requestTy, restTy     == the types of locals that hold them
+--   givenTy, lentTy                       == the types of a reference that is a parameter, and of one made in a body
 --   hostFits .. restFits                  == a value that is one of them can be stored in such a local
 --   hostOwned .. answerOwned, byteOwned, indexOwned == what plain data owns is had for nothing
 --   lentAt b o γ h                        == the reference, under the ghost name γ, to the record h that lies at (b, o)
@@ -36,9 +36,9 @@ use Rattle.host.proofs.Host.Laws as Hst′
 use Rattle.answer.specs.declared.Answer.{Answer}
 use Rattle.answer.proofs.Answer as Ans
 use Rattle.answer.proofs.Answer.Laws as Ans′
-use Rattle.himib.specs.declared.step.Chip.{Chip}
-use Rattle.himib.proofs.step.Chip as Chp
-use Rattle.himib.proofs.step.Chip.Laws as Chp′
+use Rattle.chip.specs.declared.Chip.{Chip}
+use Rattle.chip.proofs.Chip as Chp
+use Rattle.chip.proofs.Chip.Laws as Chp′
 use Rattle.record.specs.declared.Record.{Record}
 use Rattle.record.proofs.Record as Rqs
 use Rattle.record.proofs.Record.Laws as Rqs′

@@ -2,14 +2,15 @@
 // take the record out whole and put it back whole. It starts as `host::Host::power_up()`, and that is what a reset leaves in it.
 ghost use mathlib.Core.Path.{_≡_};
 ghost use Rattle.himib.specs.Step.{stepOf};
-ghost use Rattle.lent.specs.Lent.{together, served, bare, cWrite, cRead, dWrite, dRead};
+ghost use Rattle.lent.specs.Lent.{together, requested, bare, requestFor, cWrite, cRead, dWrite, dRead};
 
 pub mod lists;
 
 use answer::Answer;
-use himib::step::Chip;
-use himib::step::Stepped;
+use chip::Chip;
+use himib::Stepped;
 use host::Host;
+use record::Access;
 use record::Asked;
 use record::Record;
 
@@ -21,16 +22,16 @@ pub struct Rest {
 
 // A request on a chip and a host's record, by value.
 fn take_by_value(host: Host, chip: Chip, request: Record) -> Stepped
-    ensures { λ s. ⌜ s ≡ served request chip host ⌝ }
+    ensures { λ s. ⌜ s ≡ requested request chip host ⌝ }
 {
     let asked = request.asked;
     let source = request.source;
-    chip.take(host, asked, source)
+    himib::take(chip, host, asked, source)
 }
 
 // The same on a lent record.
 fn take(host: &mut Host, chip: Chip, request: Record) -> Rest
-    ensures { λ r. ⌜ together r (now (host .exit)) ≡ served request chip (now (host .entry)) ⌝ }
+    ensures { λ r. ⌜ together r (now (host .exit)) ≡ requested request chip (now (host .entry)) ⌝ }
 {
     let h = *host;
     let s = take_by_value(h, chip, request);
@@ -43,7 +44,7 @@ fn take(host: &mut Host, chip: Chip, request: Record) -> Rest
 
 // A C write.
 pub fn write_c(host: &mut Host, chip: Chip, byte: u8) -> Rest
-    ensures { λ r. ⌜ together r (now (host .exit)) ≡ served (cWrite byte) chip (now (host .entry)) ⌝ }
+    ensures { λ r. ⌜ together r (now (host .exit)) ≡ requested (cWrite byte) chip (now (host .entry)) ⌝ }
 {
     let request = c_write(byte);
     take(host, chip, request)
@@ -51,7 +52,7 @@ pub fn write_c(host: &mut Host, chip: Chip, byte: u8) -> Rest
 
 // A D write.
 pub fn write_d(host: &mut Host, chip: Chip, byte: u8) -> Rest
-    ensures { λ r. ⌜ together r (now (host .exit)) ≡ served (dWrite byte) chip (now (host .entry)) ⌝ }
+    ensures { λ r. ⌜ together r (now (host .exit)) ≡ requested (dWrite byte) chip (now (host .entry)) ⌝ }
 {
     let request = d_write(byte);
     take(host, chip, request)
@@ -59,19 +60,19 @@ pub fn write_d(host: &mut Host, chip: Chip, byte: u8) -> Rest
 
 // A C read.
 pub fn read_c(host: &mut Host, chip: Chip) -> Rest
-    ensures { λ r. ⌜ together r (now (host .exit)) ≡ served cRead chip (now (host .entry)) ⌝ }
+    ensures { λ r. ⌜ together r (now (host .exit)) ≡ requested cRead chip (now (host .entry)) ⌝ }
 {
-    let asked = Asked::ReadC;
-    let request = request_for(asked);
+    let access = Access::ReadC;
+    let request = request_for(access);
     take(host, chip, request)
 }
 
 // A D read.
 pub fn read_d(host: &mut Host, chip: Chip) -> Rest
-    ensures { λ r. ⌜ together r (now (host .exit)) ≡ served dRead chip (now (host .entry)) ⌝ }
+    ensures { λ r. ⌜ together r (now (host .exit)) ≡ requested dRead chip (now (host .entry)) ⌝ }
 {
-    let asked = Asked::ReadD;
-    let request = request_for(asked);
+    let access = Access::ReadD;
+    let request = request_for(access);
     take(host, chip, request)
 }
 
@@ -83,8 +84,15 @@ pub fn step(host: &mut Host, chip: Chip, bytes: &[u8]) -> Rest
     take(host, chip, request)
 }
 
-// A request with no source address.
-fn request_for(asked: Asked) -> Record
+// An access as a request.
+fn request_for(access: Access) -> Record
+    ensures { λ r. ⌜ r ≡ requestFor access ⌝ }
+{
+    bare(Asked::Access(access))
+}
+
+// A request with no source address: only a burst has one.
+fn bare(asked: Asked) -> Record
     ensures { λ r. ⌜ r ≡ bare asked ⌝ }
 {
     Record {
@@ -98,14 +106,14 @@ fn c_write(byte: u8) -> Record
     ensures { λ r. ⌜ r ≡ cWrite byte ⌝ }
 {
     if record::selects_neither(byte) {
-        return request_for(Asked::Refused(7));
+        return bare(Asked::Refused(7));
     }
-    request_for(Asked::WriteC(byte))
+    request_for(Access::WriteC(byte))
 }
 
 // What a D write asks for.
 fn d_write(byte: u8) -> Record
     ensures { λ r. ⌜ r ≡ dWrite byte ⌝ }
 {
-    request_for(Asked::WriteD(byte))
+    request_for(Access::WriteD(byte))
 }

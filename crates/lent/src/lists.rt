@@ -6,7 +6,7 @@ ghost use Rattle.record.specs.Refusals.{recordOf};
 ghost use Rattle.lent.specs.Lists.{pieces, piece, wordNumber, told, toldOf, laid, chipAfterAll, answersLaid};
 use answer::Answer;
 use burst::Word;
-use himib::step::Chip;
+use chip::Chip;
 use host::Host;
 use record::Record;
 
@@ -17,8 +17,8 @@ pub struct Told {
     pub high: u8,
 }
 
-// All the records of a list on a chip. They are pieces of 32 bytes, of which the last may be short; the host's record starts as at
-// power-up. Each answer has three bytes of the buffer, in order; an answer that does not fit whole is left out.
+// All the records of a list on a chip. They are pieces of a record's length, of which the last may be short; the host's record starts as
+// at power-up. Each answer has its bytes of the buffer, in order; an answer that does not fit whole is left out.
 pub fn answer_all(chip: Chip, records: &[u8], answers: &mut [u8]) -> Chip
     ensures { λ c. ⌜ (c ≡ chipAfterAll chip (now (records .entry))) × (now (answers .exit) ≡ answersLaid chip (now (records .entry)) (now (answers .entry))) ⌝ }
 {

@@ -7,17 +7,17 @@ use borrow.Author.Tests.{le-leb, leb-true}
 use lib.Dec.{leb}
 use Rattle.management.specs.declared.Setting.the-variants.{DisableTp, EnableTp, LinkTestOff, LinkTestOn}
 use Rattle.management.specs.declared.Command.the-variants.{Set, Unlisted}
-use Rattle.management.specs.Commands.{row, rowOf}
+use Rattle.management.specs.Commands.{ofEight, rowOf}
 
 neither : (x y : Bool) → (x ≡ true → y ≡ true → ⊥) → (x && y) ≡ false
 neither true true h = absurd (h refl refl)
 neither true false h = refl
 neither false y h = refl
 
-inside : (k b : ℕ) → k ≤ b → b ≤ k + 7 → row k b ≡ true
+inside : (k b : ℕ) → k ≤ b → b ≤ k + 7 → ofEight k b ≡ true
 inside k b p q = rw (le-leb k b p, le-leb b (k + 7) q)
 
-outside : (k b : ℕ) → (k ≤ b → b ≤ k + 7 → ⊥) → row k b ≡ false
+outside : (k b : ℕ) → (k ≤ b → b ≤ k + 7 → ⊥) → ofEight k b ≡ false
 outside k b h = neither (leb k b) (leb b (k + 7)) (λ p q. h (leb-true k b p) (leb-true b (k + 7) q))
 
 module _ (b : ℕ) where

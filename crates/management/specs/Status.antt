@@ -1,47 +1,48 @@
--- Document 01, 'Commands' and 'Reset and power-up': the status bits. B is AUI's bit rate error and `rates` the TP ports', S is SQE Test, L loopback, M jabber (MJLP).
--- A bit stays one until a Get clears it or a reset comes.
---   clearStatus    == nothing reported: at power-up and after a reset
---   marked s m     == the status s with the bits of m set as well
---   clearedBy q s  == the status after a Get
+-- Document 01, 'Commands' and 'Reset and power-up': the status bits. B is AUI's bit rate error and `rates` the TP ports', S is SQE Test,
+-- L loopback, M jabber (MJLP). A bit stays one until a Get clears it or a reset comes.
+--   clearStatus              == nothing reported: at power-up and after a reset
+--   marked status marks      == the status with the bits of marks set as well
+--   withRate status rate, .. == the status with this bit anew, the rest as it was
+--   clearedBy query status   == the status after a Get
 -- Assumes nothing.
 use Prim.Native.Nat.{ℕ}
 use mathlib.Core.Bool.{Bool, false, _||_}
 use lib.Bits.{bitOr}
 use Rattle.management.specs.declared.Status.{Status}
 use Rattle.management.specs.declared.Query.{Query}
-use Rattle.management.specs.declared.Query.the-variants.{Aui, AuiClearB, AuiClearSl, AuiClearBsl, Partition, Rates, Link, Jabber, Version}
+use Rattle.management.specs.declared.Query.the-variants.{Aui, AuiClearB, AuiClearSl, AuiClearBsl, Partition, Rates, Link, Mjlp, Version}
 
 abbrev pub clearStatus : Status
-clearStatus = record { rate = false; sqe = false; loopback = false; rates = 0; jabber = false }
+clearStatus = record { rate = false; sqe = false; loopback = false; rates = 0; mjlp = false }
 
 unfoldable pub marked : Status → Status → Status
-marked s m = record {
-  rate = s .rate || m .rate;
-  sqe = s .sqe || m .sqe;
-  loopback = s .loopback || m .loopback;
-  rates = bitOr (s .rates) (m .rates);
-  jabber = s .jabber || m .jabber;
+marked status marks = record {
+  rate = status .rate || marks .rate;
+  sqe = status .sqe || marks .sqe;
+  loopback = status .loopback || marks .loopback;
+  rates = bitOr (status .rates) (marks .rates);
+  mjlp = status .mjlp || marks .mjlp;
 }
 
 abbrev pub withRate : Status → Bool → Status
-withRate s b = record { rate = b; sqe = s .sqe; loopback = s .loopback; rates = s .rates; jabber = s .jabber }
+withRate status rate = record { rate = rate; sqe = status .sqe; loopback = status .loopback; rates = status .rates; mjlp = status .mjlp }
 
 abbrev pub withSl : Status → Bool → Bool → Status
-withSl s q l = record { rate = s .rate; sqe = q; loopback = l; rates = s .rates; jabber = s .jabber }
+withSl status sqe loopback = record { rate = status .rate; sqe = sqe; loopback = loopback; rates = status .rates; mjlp = status .mjlp }
 
 abbrev pub withRates : Status → ℕ → Status
-withRates s n = record { rate = s .rate; sqe = s .sqe; loopback = s .loopback; rates = n; jabber = s .jabber }
+withRates status rates = record { rate = status .rate; sqe = status .sqe; loopback = status .loopback; rates = rates; mjlp = status .mjlp }
 
-abbrev pub withJabber : Status → Bool → Status
-withJabber s b = record { rate = s .rate; sqe = s .sqe; loopback = s .loopback; rates = s .rates; jabber = b }
+abbrev pub withMjlp : Status → Bool → Status
+withMjlp status mjlp = record { rate = status .rate; sqe = status .sqe; loopback = status .loopback; rates = status .rates; mjlp = mjlp }
 
 unfoldable pub clearedBy : Query → Status → Status
-clearedBy Aui s = s
-clearedBy AuiClearB s = withRate s false
-clearedBy AuiClearSl s = withSl s false false
-clearedBy AuiClearBsl s = withSl (withRate s false) false false
-clearedBy Partition s = s
-clearedBy Rates s = withRates s 0
-clearedBy Link s = s
-clearedBy Jabber s = withJabber s false
-clearedBy Version s = s
+clearedBy Aui status = status
+clearedBy AuiClearB status = withRate status false
+clearedBy AuiClearSl status = withSl status false false
+clearedBy AuiClearBsl status = withSl (withRate status false) false false
+clearedBy Partition status = status
+clearedBy Rates status = withRates status 0
+clearedBy Link status = status
+clearedBy Mjlp status = withMjlp status false
+clearedBy Version status = status

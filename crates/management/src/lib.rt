@@ -22,7 +22,7 @@ pub enum Query {
     Partition,
     Rates,
     Link,
-    Jabber,
+    Mjlp,
     Version,
 }
 
@@ -33,10 +33,10 @@ pub enum Command {
 }
 
 // The command that a byte is.
-pub fn decode(b: u8) -> Command
-    ensures { λ r. ⌜ r ≡ commandOf b ⌝ }
+pub fn decode(byte: u8) -> Command
+    ensures { λ r. ⌜ r ≡ commandOf byte ⌝ }
 {
-    match b {
+    match byte {
         0b0001_1111 => Command::Set(Setting::AlternateAui),
         0b0001_0000 => Command::Set(Setting::AlternateTp),
         0b0010_1111 => Command::Set(Setting::DisableAui),
@@ -48,21 +48,21 @@ pub fn decode(b: u8) -> Command
         0b1000_0000 => Command::Get(Query::Partition),
         0b1010_0000 => Command::Get(Query::Rates),
         0b1101_0000 => Command::Get(Query::Link),
-        0b1111_0000 => Command::Get(Query::Jabber),
+        0b1111_0000 => Command::Get(Query::Mjlp),
         0b1111_1111 => Command::Get(Query::Version),
-        _ => decode_row(b),
+        _ => decode_row(byte),
     }
 }
 
 // A byte whose last three bits name a TP port, or one that is not listed.
-fn decode_row(b: u8) -> Command
-    ensures { λ r. ⌜ r ≡ rowOf b ⌝ }
+fn decode_row(byte: u8) -> Command
+    ensures { λ r. ⌜ r ≡ rowOf byte ⌝ }
 {
-    match b {
-        0b0010_0000..=0b0010_0111 => Command::Set(Setting::DisableTp(b - 0b0010_0000)),
-        0b0011_0000..=0b0011_0111 => Command::Set(Setting::EnableTp(b - 0b0011_0000)),
-        0b0100_0000..=0b0100_0111 => Command::Set(Setting::LinkTestOff(b - 0b0100_0000)),
-        0b0101_0000..=0b0101_0111 => Command::Set(Setting::LinkTestOn(b - 0b0101_0000)),
+    match byte {
+        0b0010_0000..=0b0010_0111 => Command::Set(Setting::DisableTp(byte - 0b0010_0000)),
+        0b0011_0000..=0b0011_0111 => Command::Set(Setting::EnableTp(byte - 0b0011_0000)),
+        0b0100_0000..=0b0100_0111 => Command::Set(Setting::LinkTestOff(byte - 0b0100_0000)),
+        0b0101_0000..=0b0101_0111 => Command::Set(Setting::LinkTestOn(byte - 0b0101_0000)),
         _ => Command::Unlisted,
     }
 }
@@ -72,7 +72,7 @@ pub struct Status {
     pub sqe: bool,
     pub loopback: bool,
     pub rates: u8,
-    pub jabber: bool,
+    pub mjlp: bool,
 }
 
 impl Status {
@@ -85,7 +85,7 @@ impl Status {
             sqe: false,
             loopback: false,
             rates: 0,
-            jabber: false,
+            mjlp: false,
         }
     }
 
@@ -98,15 +98,15 @@ impl Status {
             sqe: self.sqe | marks.sqe,
             loopback: self.loopback | marks.loopback,
             rates: self.rates | marks.rates,
-            jabber: self.jabber | marks.jabber,
+            mjlp: self.mjlp | marks.mjlp,
         }
     }
 
     // The status after a Get.
-    pub fn clear(mut self, q: Query) -> Status
-        ensures { λ r. ⌜ r ≡ clearedBy q self ⌝ }
+    pub fn clear(mut self, query: Query) -> Status
+        ensures { λ r. ⌜ r ≡ clearedBy query self ⌝ }
     {
-        match q {
+        match query {
             Query::Aui => self,
             Query::AuiClearB => {
                 self.rate = false;
@@ -129,8 +129,8 @@ impl Status {
                 self
             }
             Query::Link => self,
-            Query::Jabber => {
-                self.jabber = false;
+            Query::Mjlp => {
+                self.mjlp = false;
                 self
             }
             Query::Version => self,

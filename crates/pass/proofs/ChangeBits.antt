@@ -1,5 +1,5 @@
--- Demand 3 for the change bits: after any list of records from power-up a change bit is one exactly if its event came after the last accepted read of its register or
--- reset. Assumes nothing.
+-- Demand 3 for the change bits: after any list of records from power-up a change bit is one exactly if its event came after the last accepted read of its
+-- register or reset. Assumes nothing.
 --   set-read-set, each-register == both sides computed on lists of records
 --   events-at         == the bits that `eventsOf` sets are those of the event, register by register
 --   step-bit          == one record clears a bit, or leaves it and adds its event
@@ -10,54 +10,57 @@ use mathlib.Core.Path.{_≡_, refl, sym, ap, _∙_}
 use mathlib.Core.Bool.{Bool, true, false, cond, not, _&&_, _||_, and-true, and-false, or-false}
 use mathlib.Core.List.{List, [], _∷_, _++_}
 use native.Mathlib.Omega.{arith}
-use borrow.Author.Tests.{ne-eqb}
+use borrow.Author.Tests.{eq-eqb, ne-eqb}
 use lib.Dec.{eqb, eqb·suc-suc, lit<}
 use lib.ListN.{length, getD, set, replicate, length-set, getD-replicate}
 use lib.Bits.{bitOr, bitXor, differ, xor-step}
 use Rattle.ports.specs.Sets.{aui, has}
-use Rattle.ports.specs.Each.{each}
 use Rattle.ports.proofs.Sets.{has-none, has-or, has-mod, has-power}
 use Rattle.ports.proofs.Each.{each-length, each-at}
+use Rattle.record.specs.declared.Access.{Access}
+use Rattle.record.specs.declared.Access.the-variants.{WriteC, WriteD, ReadC, ReadD}
 use Rattle.record.specs.declared.Asked.{Asked}
 use Rattle.record.specs.declared.Asked.the-variants as ask
 use Rattle.record.specs.declared.Burst.{Burst}
 use Rattle.record.specs.Refusals.{recordOf}
-use Rattle.burst.specs.declared.Hearing.{Hearing}
+use Rattle.record.specs.Accepted.{kindNumber}
+use Rattle.record.specs.Records.{noAddress, burstRecord, pulseRecord, cWriteRecord, dReadRecord, resetRecord}
+use Rattle.burst.specs.Marks.{marksOf}
 use Rattle.repeater.specs.declared.Repeater.{Repeater}
 use Rattle.repeater.specs.declared.Bursted.{Bursted}
-use Rattle.repeater.specs.Hearing.{hearingOf}
-use Rattle.burst.specs.Marks.{marksOf}
-use Rattle.repeater.specs.Repeater.{setTo, gotOf, tickedAll, pulsedAll, followed, burstOf, partitionedOf, linkedOf}
+use Rattle.repeater.specs.Repeater.{quieted, setTo, gotOf, followed, burstOf, partitionedOf, linkedOf}
 use Rattle.host.specs.declared.Host.{Host}
 use Rattle.answer.specs.declared.Answer.{Answer}
 use Rattle.answer.specs.Answer.{outputsOf}
-use Rattle.attributes.specs.declared.Attributes.{Attributes}
-use Rattle.attributes.specs.Credits.{noAttributes, changedOf, creditedAt}
-use Rattle.himib.specs.declared.core.Core.{Core}
-use Rattle.himib.specs.declared.step.Chip.{Chip}
-use Rattle.himib.specs.declared.step.Stepped.{Stepped}
+use Rattle.attributes.specs.declared.Nine.{Nine}
+use Rattle.attributes.specs.declared.Due.{Due}
+use Rattle.attributes.specs.Nine.{addressChanges, counterOf, Proper}
+use Rattle.attributes.specs.Credits.{dueOf, creditedAll}
+use Rattle.attributes.proofs.NineLaws.{change-seen}
 use Rattle.changes.specs.Changes.{bit7, eventsOf, noted}
-use Rattle.himib.specs.Bursts.{wired, cutBy, burstCore, burstOn}
-use Rattle.himib.specs.Chip.{moved, withChanges}
-use Rattle.himib.specs.Access.{cReadOf, obeyed, selectedBy}
-use Rattle.himib.specs.Step.{actOn, readdressed, taken, stepOf}
-use Rattle.pass.specs.Runs.{Point, Happening, happening, history, run, start, Given, kindOf, accepted, ifBurst}
+use Rattle.chip.specs.declared.Core.{Core}
+use Rattle.chip.specs.declared.Chip.{Chip}
+use Rattle.chip.specs.Chip.{moved, withChanges}
+use Rattle.access.specs.declared.Acted.{Acted}
+use Rattle.access.specs.Access.{cReadOf, obeyed, selectedBy, served}
+use Rattle.himib.specs.declared.Stepped.{Stepped}
+use Rattle.himib.specs.Bursts.{activityOf, metBy, burstCore, notedOn, burstOn}
+use Rattle.himib.specs.Step.{addressedAt, taken, stepOf}
+use Rattle.himib.specs.Runs.{Point, Happening, happening, start, Given, accepted, ifBurst, historyOf, runOf, allAt}
+use Rattle.himib.proofs.StepLaws.{burst-consistent, counter-addressed}
+use Rattle.himib.proofs.Runs.{all-given, found, foundAfter, found-once, found-after-once}
+use Rattle.pass.specs.Judged.{happens, history, run}
 use Rattle.pass.specs.Pass.{changeBit, differs, changes, isChange, clears, noneOf, cameAfter, ChangeBitsByPast}
-use Rattle.pass.specs.Examples.{noAddress, burstRecord, pulseRecord, cWriteRecord, dReadRecord, resetRecord, attributesUp, up}
-use Rattle.pass.proofs.Computing.{step-computes, found, foundAfter, found-once, found-after-once}
+use Rattle.pass.specs.Examples.{up}
+use Rattle.pass.proofs.Computing.{step-computes}
+use Rattle.record.proofs.KindLaws.{quiet-is-no}
 use Rattle.pass.proofs.Accesses.{after-write, after-read}
-use Rattle.pass.proofs.AddressCounter.{countedIn, Fits, readdressed-fits, readdressed-counted, credited-fits, credited-counted, heard-changed}
+use Rattle.pass.proofs.Credited.{Fit, fit-after}
 
 -- AT ONE VALUE
 
-given-up : Given attributesUp 0 0
-given-up = record {
-  ports = refl;
-  thirteen = λ i h. rw (getD-replicate 9 i noAttributes noAttributes h);
-  low = λ i r h l. rw (getD-replicate 9 i noAttributes noAttributes h, getD-replicate {A = ℕ} 13 r 0 0 l) (lit< tt);
-  collisions-low = lit< tt;
-  octets-low = lit< tt;
-}
+given-up : Given (allAt 0)
+given-up = all-given 0 (lit< tt)
 
 -- bit j of register R, and whether its event came after the last clearing record
 abbrev told : ℕ → ℕ → Point → List Happening → List Bool
@@ -96,9 +99,9 @@ greeting = burstRecord 0b100000000 0 1000 64 0 0 0 (1 ∷ replicate 5 0) ∷ []
 abbrev endings : List (List (List ℕ))
 endings = [] ∷ look 1 ∷ (look 1 ++ joined) ∷ look 0 ∷ look 5 ∷ (resetRecord ∷ []) ∷ []
 
-set-read-set : foundAfter (told 1 7) up cut endings ≡ yes ∷ no ∷ yes ∷ yes ∷ yes ∷ no ∷ []
-unfolding step-computes run history happening kindOf accepted ifBurst changes noneOf cameAfter
-set-read-set = found-after-once (told 1 7) up cut endings refl
+set-read-set : foundAfter happens (told 1 7) up cut endings ≡ yes ∷ no ∷ yes ∷ yes ∷ yes ∷ no ∷ []
+unfolding step-computes runOf historyOf happening accepted ifBurst changes noneOf cameAfter
+set-read-set = found-after-once happens (told 1 7) up cut endings refl
 
 -- TP0's and TP1's link, loopback, SQE Test and TP0's address
 abbrev five : Point → List Happening → List (List Bool)
@@ -108,18 +111,18 @@ five p hs = told 2 0 p hs ∷ told 2 1 p hs ∷ told 3 7 p hs ∷ told 4 7 p hs 
 abbrev again : List (List (List ℕ))
 again = [] ∷ (look 6 ++ frame 1) ∷ []
 
-each-register : (found (told 0 0) up (split ++ look 5) ≡ yes)
-    × (found (told 1 7) up cut ≡ yes)
-    × (foundAfter five up (frame 1) again ≡ (yes ∷ no ∷ yes ∷ yes ∷ yes ∷ []) ∷ (yes ∷ no ∷ yes ∷ yes ∷ no ∷ []) ∷ [])
-    × (found (told 6 0) up (frame 0) ≡ no)
-    × (found (told 7 7) up greeting ≡ yes)
-unfolding step-computes run history happening kindOf accepted ifBurst changes noneOf cameAfter
+each-register : (found happens (told 0 0) up (split ++ look 5) ≡ yes)
+    × (found happens (told 1 7) up cut ≡ yes)
+    × (foundAfter happens five up (frame 1) again ≡ (yes ∷ no ∷ yes ∷ yes ∷ yes ∷ []) ∷ (yes ∷ no ∷ yes ∷ yes ∷ no ∷ []) ∷ [])
+    × (found happens (told 6 0) up (frame 0) ≡ no)
+    × (found happens (told 7 7) up greeting ≡ yes)
+unfolding step-computes runOf historyOf happening accepted ifBurst changes noneOf cameAfter
 each-register = (
-  found-once (told 0 0) up (split ++ look 5) refl,
-  found-once (told 1 7) up cut refl,
-  found-after-once five up (frame 1) again refl,
-  found-once (told 6 0) up (frame 0) refl,
-  found-once (told 7 7) up greeting refl,
+  found-once happens (told 0 0) up (split ++ look 5) refl,
+  found-once happens (told 1 7) up cut refl,
+  found-after-once happens five up (frame 1) again refl,
+  found-once happens (told 6 0) up (frame 0) refl,
+  found-once happens (told 7 7) up greeting refl,
 )
 
 -- SETS THAT DIFFER
@@ -230,95 +233,104 @@ unfolding noted
 noted-at es cs r j h =
     ap (λ (n : ℕ). has n j) (each-at (λ r c. bitOr c (getD es r 0)) cs r 0 0 h) ∙ has-or (getD cs r 0) (getD es r 0) j
 
+-- the ports whose partition, and whose link, is another in x than in y
+abbrev partitionChanges : Repeater → Repeater → ℕ
+partitionChanges x y = bitXor (partitionedOf x) (partitionedOf y)
+
+abbrev linkChanges : Repeater → Repeater → ℕ
+linkChanges x y = bitXor (linkedOf x) (linkedOf y)
+
 -- what moves the repeater adds its events to the bits
 moved-bit : (c : Core) (q : Repeater) (loopback sqe : Bool) (address r j : ℕ) → length (c .changes) ≡ 8 → r < 8 → j < 8
     → bitOf r j (moved c q loopback sqe address)
-    ≡ (bitOf r j c || eventBit r j (has (bitXor (partitionedOf (c .repeater)) (partitionedOf q))) (has (bitXor (linkedOf (c .repeater)) (linkedOf q))) loopback sqe (has address))
+    ≡ (bitOf r j c || eventBit r j (has (partitionChanges (c .repeater) q)) (has (linkChanges (c .repeater) q)) loopback sqe (has address))
 unfolding moved
 moved-bit c q loopback sqe address r j n h l =
-    let part = bitXor (partitionedOf (c .repeater)) (partitionedOf q) in
-    let link = bitXor (linkedOf (c .repeater)) (linkedOf q) in
+    let part = partitionChanges (c .repeater) q in
+    let link = linkChanges (c .repeater) q in
     noted-at (eventsOf part link loopback sqe address) (c .changes) r j (omega arith)
     ∙ ap (λ (b : Bool). bitOf r j c || b) (events-at part link loopback sqe address r j h l)
+
+-- SOURCE ADDRESS CHANGES
+
+-- the counter of port i moved
+abbrev countedIn : Nine → Nine → ℕ → Bool
+countedIn nine next i = not (eqb (counterOf nine i addressChanges) (counterOf next i addressChanges))
+
+uncounted : (nine : Nine) (i : ℕ) → countedIn nine nine i ≡ false
+uncounted nine i = rw (eq-eqb (counterOf nine i addressChanges) (counterOf nine i addressChanges) refl)
+
+-- a completed address write moves none
+written-uncounted : (port : ℕ) (source : List ℕ) (nine : Nine) (i : ℕ) → countedIn nine (addressedAt port source nine) i ≡ false
+written-uncounted port source nine i = rw (counter-addressed port source nine i addressChanges) (uncounted nine i)
 
 -- WHAT STANDS AT EVERY POINT OF A RUN
 
 record Firm (p : Point) : Type 0 where
   pub eight : length (p .chip .core .changes) ≡ 8
-  pub fits : Fits (p .chip .attributes)
-
-firm-start : (nine : List Attributes) (collisions octets : ℕ) → Given nine collisions octets → Firm (start nine collisions octets)
-firm-start nine collisions octets g = record {
-  eight = refl;
-  fits = record { ports = g .ports; there = λ i h. omega (arith, g .thirteen i h); low = λ i h. g .low i 12 h (omega arith) };
-}
+  pub fit : Fit p
 
 -- as many change registers as before
 moved-length : (c : Core) (q : Repeater) (loopback sqe : Bool) (address : ℕ) → length (moved c q loopback sqe address .changes) ≡ length (c .changes)
 unfolding moved noted
 moved-length c q loopback sqe address =
-    each-length (λ r m. bitOr m (getD (eventsOf (bitXor (partitionedOf (c .repeater)) (partitionedOf q)) (bitXor (linkedOf (c .repeater)) (linkedOf q)) loopback sqe address) r 0)) (c .changes)
+    let events = eventsOf (partitionChanges (c .repeater) q) (linkChanges (c .repeater) q) loopback sqe address in
+    each-length (λ r m. bitOr m (getD events r 0)) (c .changes)
 
 module _ (source : List ℕ) (s : Chip) (host : Host) where
+  eight-served : (a : Access) → length (s .core .changes) ≡ 8 → length (served a (s .core) (s .attributes) host .core .changes) ≡ 8
+  unfolding served cReadOf obeyed
+  eight-served (WriteC b) n = n
+  eight-served (WriteD b) n =
+      after-write (λ d. length (d .changes) ≡ 8) (s .core) b n (λ g k. moved-length (s .core) _ _ _ _ ∙ n)
+      (λ g q. moved-length (s .core) _ _ _ _ ∙ n)
+      (λ k. n)
+      host
+  eight-served ReadC n = n
+  eight-served ReadD n = after-read 0 (λ d b. length (d .changes) ≡ 8) (s .core) n (λ k. length-set (s .core .changes) k 0 ∙ n) (s .attributes) host
+
   eight-after : (a : Asked) → length (s .core .changes) ≡ 8 → length (taken a source s host .chip .core .changes) ≡ 8
-  unfolding taken actOn burstOn burstCore cReadOf obeyed
+  unfolding taken notedOn burstOn burstCore
   eight-after (ask.Burst b) n = moved-length (s .core) _ _ _ _ ∙ n
-  eight-after (ask.Pulse m) n = moved-length (s .core) _ _ _ _ ∙ n
-  eight-after ask.Tick n = moved-length (s .core) _ _ _ _ ∙ n
-  eight-after (ask.WriteC b) n = n
-  eight-after (ask.WriteD b) n =
-      after-write (λ d. length (d .changes) ≡ 8) (s .core) b n (λ g k. moved-length (s .core) _ _ _ _ ∙ n) (λ g q. moved-length (s .core) _ _ _ _ ∙ n) (λ k. n) host
-  eight-after ask.ReadC n = n
-  eight-after ask.ReadD n = after-read 0 (λ d b. length (d .changes) ≡ 8) (s .core) n (λ k. length-set (s .core .changes) k 0 ∙ n) (s .attributes) host
+  eight-after (ask.Quiet q) n = moved-length (s .core) _ _ _ _ ∙ n
+  eight-after (ask.Access a) n = eight-served a n
   eight-after ask.Reset n = refl
   eight-after (ask.Refused k) n = n
 
-  fits-after : (a : Asked) → Fits (s .attributes) → Fits (taken a source s host .chip .attributes)
-  unfolding taken burstOn burstOf followed
-  fits-after (ask.Burst b) f =
-      let t : Bursted = burstOf (s .core .repeater) (wired b) in
-      let g : Hearing = hearingOf (s .core .repeater .ports) (wired b) in
-      credited-fits g (t .effect) (cutBy (s .core) t) (changedOf (g .heard) (t .effect) b source (s .attributes)) b source (s .attributes) f
-      (heard-changed (s .core .repeater .ports) (wired b) (t .effect) b source (s .attributes))
-  fits-after (ask.Pulse m) f = readdressed-fits _ _ (s .attributes) f
-  fits-after ask.Tick f = readdressed-fits _ _ (s .attributes) f
-  fits-after (ask.WriteC b) f = readdressed-fits _ _ (s .attributes) f
-  fits-after (ask.WriteD b) f = readdressed-fits _ _ (s .attributes) f
-  fits-after ask.ReadC f = readdressed-fits _ _ (s .attributes) f
-  fits-after ask.ReadD f = readdressed-fits _ _ (s .attributes) f
-  fits-after ask.Reset f = readdressed-fits _ _ (s .attributes) f
-  fits-after (ask.Refused k) f = readdressed-fits _ _ (s .attributes) f
-
-firm-after : (p : Point) (bs : List ℕ) → Firm p → Firm (happening p bs .after)
+firm-after : (p : Point) (bs : List ℕ) → Firm p → Firm (happens p bs .after)
 unfolding happening stepOf
 firm-after p bs f = record {
   eight = eight-after (recordOf bs .source) (p .chip) (p .host) (recordOf bs .asked) (f .eight);
-  fits = fits-after (recordOf bs .source) (p .chip) (p .host) (recordOf bs .asked) (f .fits);
+  fit = fit-after p bs (f .fit);
 }
 
 -- ONE RECORD
 
 -- the event of bit j of register R between two states, of the repeater x and y and of the attributes
-abbrev between : ℕ → ℕ → Bool → Bool → Repeater → Repeater → List Attributes → List Attributes → Bool
+abbrev between : ℕ → ℕ → Bool → Bool → Repeater → Repeater → Nine → Nine → Bool
 between r j loopback sqe x y nine next =
-    eventBit r j (λ i. differs (has (partitionedOf x) i) (has (partitionedOf y) i)) (λ i. differs (has (linkedOf x) i) (has (linkedOf y) i)) loopback sqe (countedIn nine next)
+    eventBit r j (λ i. differs (has (partitionedOf x) i) (has (partitionedOf y) i)) (λ i. differs (has (linkedOf x) i) (has (linkedOf y) i))
+    loopback sqe (countedIn nine next)
 
 differs-self : (b : Bool) → differs b b ≡ false
 differs-self true = refl
 differs-self false = refl
 
 module _ (r j : ℕ) (h : r < 8) (l : j < 8) where
-  moved-step : (c : Core) → length (c .changes) ≡ 8 → (nine next : List Attributes) (q : Repeater) (loopback sqe : Bool) (address : ℕ) → Same (has address) (countedIn nine next)
+  moved-step : (c : Core) → length (c .changes) ≡ 8 → (nine next : Nine) (q : Repeater) (loopback sqe : Bool) (address : ℕ)
+      → Same (has address) (countedIn nine next)
       → bitOf r j (moved c q loopback sqe address) ≡ (bitOf r j c || between r j loopback sqe (c .repeater) q nine next)
   moved-step c n nine next q loopback sqe address a =
       moved-bit c q loopback sqe address r j n h l
       ∙ ap (λ (b : Bool). bitOf r j c || b)
-      (same-bit r j _ _ _ _ _ _ loopback sqe l (λ i k. has-xor (partitionedOf (c .repeater)) (partitionedOf q) i) (λ i k. has-xor (linkedOf (c .repeater)) (linkedOf q) i) a)
+      (same-bit r j _ _ _ _ _ _ loopback sqe l (λ i k. has-xor (partitionedOf (c .repeater)) (partitionedOf q) i)
+      (λ i k. has-xor (linkedOf (c .repeater)) (linkedOf q) i)
+      a)
 
-  module _ (source : List ℕ) (s : Chip) (host : Host) (n : length (s .core .changes) ≡ 8) (f : Fits (s .attributes)) where
+  module _ (source : List ℕ) (s : Chip) (host : Host) (n : length (s .core .changes) ≡ 8) (f : Proper (s .attributes)) where
     -- what clears the bit, and the events of a burst, by what is asked
     abbrev clearsFor : Asked → Answer → Bool
-    clearsFor a v = eqb (kindOf a) 8 || (eqb (kindOf a) 7 && accepted v && isChange r (selectedBy host))
+    clearsFor a v = eqb (kindNumber a) 8 || (eqb (kindNumber a) 7 && accepted v && isChange r (selectedBy host .role))
 
     abbrev loopbackFor : Asked → Answer → Bool
     loopbackFor a v = ifBurst false (λ b. b .«loopback_missing» && has (outputsOf v) aui) a
@@ -330,36 +342,31 @@ module _ (r j : ℕ) (h : r < 8) (l : j < 8) where
     Steps a t =
         bitOf r j (t .chip .core)
         ≡ cond (clearsFor a (t .answer)) false
-        (bitOf r j (s .core) || between r j (loopbackFor a (t .answer)) (sqeFor a) (s .core .repeater) (t .chip .core .repeater) (s .attributes) (t .chip .attributes))
+        (bitOf r j (s .core)
+        || between r j (loopbackFor a (t .answer)) (sqeFor a) (s .core .repeater) (t .chip .core .repeater) (s .attributes) (t .chip .attributes))
 
     burst-step : (b : Burst) → Steps (ask.Burst b) (taken (ask.Burst b) source s host)
-    unfolding taken burstOn burstCore burstOf followed marksOf wired moved kindOf ifBurst
+    unfolding taken notedOn burstOn burstCore burstOf followed marksOf activityOf moved ifBurst
     burst-step b =
-        let t : Bursted = burstOf (s .core .repeater) (wired b) in
-        let g : Hearing = hearingOf (s .core .repeater .ports) (wired b) in
-        let changed : ℕ = changedOf (g .heard) (t .effect) b source (s .attributes) in
-        moved-step (s .core) n (s .attributes) (each (creditedAt g (t .effect) (cutBy (s .core) t) changed b source) (s .attributes)) (t .repeater) (t .marks .loopback) (t .marks .sqe) changed
-        (credited-counted g (t .effect) (cutBy (s .core) t) changed b source (s .attributes) f (heard-changed (s .core .repeater .ports) (wired b) (t .effect) b source (s .attributes)))
+        let t : Bursted = burstOf (s .core .repeater) (activityOf b) in
+        let due : Due = dueOf (s .attributes) (metBy (s .core) t) b source in
+        moved-step (s .core) n (s .attributes) (creditedAll due b source (s .attributes)) (t .repeater) (t .marks .loopback) (t .marks .sqe) (due .changed)
+        (change-seen due b source (s .attributes) f (burst-consistent (s .core) b (s .attributes) source))
 
-    -- any other record: d is the core after it, and b whether it clears
-    module _ (a : Asked) where
-      abbrev next : List Attributes
-      next = readdressed (actOn a (s .core) (s .attributes) host .port) (actOn a (s .core) (s .attributes) host .host .bytes) (s .attributes)
-
+    -- any other record leaves no counter moved; d is the core after it, and b whether it clears
+    module _ (next : Nine) (none : (i : ℕ) → countedIn (s .attributes) next i ≡ false) where
       abbrev Follows : Core → Bool → Type 0
       Follows d b = bitOf r j d ≡ cond b false (bitOf r j (s .core) || between r j false false (s .core .repeater) (d .repeater) (s .attributes) next)
 
-      uncounted : (i : ℕ) → countedIn (s .attributes) next i ≡ false
-      uncounted = readdressed-counted (actOn a (s .core) (s .attributes) host .port) (actOn a (s .core) (s .attributes) host .host .bytes) (s .attributes)
-
       moves : (q : Repeater) → Follows (moved (s .core) q false false 0) false
       unfolding moved
-      moves q = moved-step (s .core) n (s .attributes) next q false false 0 (λ i k. has-none i ∙ sym (uncounted i))
+      moves q = moved-step (s .core) n (s .attributes) next q false false 0 (λ i k. has-none i ∙ sym (none i))
 
       no-event : between r j false false (s .core .repeater) (s .core .repeater) (s .attributes) next ≡ false
       no-event =
-          same-bit r j _ nobody _ nobody _ nobody false false l (λ i k. differs-self (has (partitionedOf (s .core .repeater)) i)) (λ i k. differs-self (has (linkedOf (s .core .repeater)) i))
-          (λ i k. uncounted i)
+          same-bit r j _ nobody _ nobody _ nobody false false l (λ i k. differs-self (has (partitionedOf (s .core .repeater)) i))
+          (λ i k. differs-self (has (linkedOf (s .core .repeater)) i))
+          (λ i k. none i)
           ∙ no-bit r j
 
       stays : Follows (s .core) false
@@ -372,32 +379,35 @@ module _ (r j : ℕ) (h : r < 8) (l : j < 8) where
           go true e = rw (zeroed (s .core .changes) k r, e) (has-none j)
           go false e = rw (zeroed (s .core .changes) k r, e) stays
 
-    write-step : (b : ℕ) → Steps (ask.WriteD b) (taken (ask.WriteD b) source s host)
-    unfolding taken actOn obeyed moved kindOf ifBurst
-    write-step b =
-        let a : Asked = ask.WriteD b in
-        after-write (λ d. Follows a d false) (s .core) b (stays a) (λ g k. moves a (setTo k (s .core .repeater))) (λ g q. moves a (gotOf q (s .core .repeater) .repeater)) (λ k. stays a) host
+      accessed : (a : Access) → let t : Acted = served a (s .core) (s .attributes) host in Follows (t .core) (clearsFor (ask.Access a) (t .answer))
+      unfolding served cReadOf obeyed moved
+      accessed (WriteC b) = stays
+      accessed (WriteD b) =
+          after-write (λ d. Follows d false) (s .core) b stays (λ g k. moves (setTo k (s .core .repeater)))
+          (λ g q. moves (gotOf q (s .core .repeater) .repeater))
+          (λ k. stays)
+          host
+      accessed ReadC = stays
+      accessed ReadD = after-read r Follows (s .core) stays clearing (s .attributes) host
 
     step : (a : Asked) → Steps a (taken a source s host)
-    unfolding taken actOn cReadOf moved kindOf ifBurst
+    unfolding taken moved ifBurst
     step (ask.Burst b) = burst-step b
-    step (ask.Pulse m) = moves (ask.Pulse m) (pulsedAll (s .core .repeater) m)
-    step ask.Tick = moves ask.Tick (tickedAll (s .core .repeater))
-    step (ask.WriteC b) = stays (ask.WriteC b)
-    step (ask.WriteD b) = write-step b
-    step ask.ReadC = stays ask.ReadC
-    step ask.ReadD = after-read r (Follows ask.ReadD) (s .core) (stays ask.ReadD) (clearing ask.ReadD) (s .attributes) host
+    step (ask.Quiet q) =
+        rw (quiet-is-no 8 refl q, quiet-is-no 7 refl q) (moves (s .attributes) (uncounted (s .attributes)) (quieted q (s .core .repeater)))
+    step (ask.Access a) = accessed _ (written-uncounted _ _ (s .attributes)) a
     step ask.Reset = rw (getD-replicate {A = ℕ} 8 r 0 0 h) (has-none j)
-    step (ask.Refused k) = stays (ask.Refused k)
+    step (ask.Refused k) = stays (s .attributes) (uncounted (s .attributes))
 
   step-bit : (p : Point) (bs : List ℕ) → Firm p
-      → changeBit r j (happening p bs .after) ≡ cond (clears r (happening p bs)) false (changeBit r j p || changes r j (happening p bs))
+      → changeBit r j (happens p bs .after) ≡ cond (clears r (happens p bs)) false (changeBit r j p || changes r j (happens p bs))
   unfolding happening stepOf changes eventBit
-  step-bit p bs f = step (recordOf bs .source) (p .chip) (p .host) (f .eight) (f .fits) (recordOf bs .asked)
+  step-bit p bs f = step (recordOf bs .source) (p .chip) (p .host) (f .eight) (f .fit .attributes) (recordOf bs .asked)
 
 -- ALL RECORDS
 
--- the bits after one record more: whether it clears, the bit before it, its event, whether a later record clears, and whether the event came after all clearing ones
+-- the bits after one record more: whether it clears, the bit before it, its event, whether a later record clears, and whether the event came after all
+-- clearing ones
 shuffled : (c x e n m : Bool) → (cond c false (x || e) && n || m) ≡ (x && (not c && n) || (m || e && not c && n))
 shuffled true true true n m = sym (or-false m)
 shuffled true true false n m = sym (or-false m)
@@ -415,16 +425,17 @@ shuffled false false false n m = sym (or-false m)
 module _ (r j : ℕ) (h : r < 8) (l : j < 8) where
   bits-after : (p : Point) (rs : List (List ℕ)) → Firm p
       → changeBit r j (run p rs) ≡ (changeBit r j p && noneOf (clears r) (history p rs) || cameAfter (changes r j) (clears r) (history p rs))
-  unfolding run history noneOf cameAfter
+  unfolding runOf historyOf noneOf cameAfter
   bits-after p [] f = sym (or-false (changeBit r j p && true) ∙ and-true (changeBit r j p))
   bits-after p (bs ∷ rs) f =
-      let t : Happening = happening p bs in
+      let t : Happening = happens p bs in
+      let later : List Happening = history (t .after) rs in
       bits-after (t .after) rs (firm-after p bs f)
       ∙ rw (step-bit r j h l p bs f)
-      (shuffled (clears r t) (changeBit r j p) (changes r j t) (noneOf (clears r) (history (t .after) rs)) (cameAfter (changes r j) (clears r) (history (t .after) rs)))
+      (shuffled (clears r t) (changeBit r j p) (changes r j t) (noneOf (clears r) later) (cameAfter (changes r j) (clears r) later))
 
 pub change-bits-by-past : ChangeBitsByPast
-change-bits-by-past nine collisions octets given rs r j h l =
-    let p : Point = start nine collisions octets in
+change-bits-by-past given fit rs r j h l =
+    let p : Point = start given in
     let z : changeBit r j p ≡ false = rw (getD-replicate {A = ℕ} 8 r 0 0 h) (has-none j) in
-    bits-after r j h l p rs (firm-start nine collisions octets given) ∙ rw z
+    bits-after r j h l p rs (record { eight = refl; fit = fit }) ∙ rw z

@@ -1,11 +1,13 @@
--- Demand 3, the counters: each counter, Transmit Collisions and Total Octets are their start plus what the past credits them with, modulo 2^32. Assumes nothing.
+-- Demand 3, the counters: each counter, Transmit Collisions and Total Octets are their start plus what the past credits them with, modulo 2^32.
+-- Assumes nothing.
 --   counted-from     == from any point whose attributes and totals are such as the caller can give
 --   counters-by-past == from power-up
 use Prim.Native.Nat.{ℕ, _+_, _%_, _^_, _<_}
 use mathlib.Core.Path.{_≡_}
 use mathlib.Core.List.{List, [], _∷_}
 use native.Mathlib.Omega.{arith}
-use Rattle.pass.specs.Runs.{Point, happening, history, run, start}
+use Rattle.himib.specs.Runs.{Point, start, historyOf, runOf}
+use Rattle.pass.specs.Judged.{happens}
 use Rattle.pass.specs.Pass.{sumOf, CountedFrom, CountersByPast}
 use Rattle.pass.proofs.Credited.{Fit, Credited, credited, fit-after}
 
@@ -17,12 +19,16 @@ one-more : (k m n c s : ℕ) → k ≡ (m + s) % 2 ^ 32 → m ≡ (n + c) % 2 ^ 
 one-more k m n c s e d = omega arith
 
 pub counted-from : (p : Point) → Fit p → (rs : List (List ℕ)) → CountedFrom p rs
-unfolding run history sumOf
+unfolding runOf historyOf sumOf
 counted-from p fit [] =
-    record { each-counter = λ i r l m. none-yet _ (fit .low i r l m); collisions = none-yet _ (fit .collisions-low); octets = none-yet _ (fit .octets-low) }
+    record {
+      each-counter = λ i r l m. none-yet _ (fit .attributes .low i r l m);
+      collisions = none-yet _ (fit .collisions-low);
+      octets = none-yet _ (fit .octets-low);
+    }
 counted-from p fit (r ∷ rs) =
     let now : Credited p r = credited p r fit in
-    let later : CountedFrom (happening p r .after) rs = counted-from (happening p r .after) (fit-after p r fit) rs in
+    let later : CountedFrom (happens p r .after) rs = counted-from (happens p r .after) (fit-after p r fit) rs in
     record {
       each-counter = λ i k l m. one-more _ _ _ _ _ (later .each-counter i k l m) (now .each-counter i k l m);
       collisions = one-more _ _ _ _ _ (later .collisions) (now .collisions);
@@ -31,4 +37,4 @@ counted-from p fit (r ∷ rs) =
 
 -- its instance: brink-given, aui-counted, tp0-counted and totals-counted of Instances
 pub counters-by-past : CountersByPast
-counters-by-past nine collisions octets given rs = counted-from (start nine collisions octets) given rs
+counters-by-past given fit rs = counted-from (start given) fit rs

@@ -1,49 +1,49 @@
--- Who is enabled: a burst, a tick, link pulses and a Get enable and disable nobody, and a Set disables the port at place i exactly if it is the disabling of that port,
--- which was enabled. So a disabling can be seen in the enabled ports before and after a record. Assumes nothing.
+-- Who is enabled: a burst, a tick, link pulses and a Get enable and disable nobody, and a Set disables the port at place i exactly if it is the disabling of
+-- that port, which was enabled. So a disabling can be seen in the enabled ports before and after a record. Assumes nothing.
 --   enabledIn r i    == the port at place i is enabled
 --   enabled-at       == it is in the mask exactly then
---   enabled-bursted, -ticked, -pulsed, -got == it is enabled as before
+--   enabled-bursted, -quieted, -got == it is enabled as before
 --   enabled-set      == it was, and after the Set it is not, exactly if the Set disables it
-use Prim.Native.Nat.{ℕ, zero, suc, _<_}
-use mathlib.Core.Path.{_≡_, refl}
+use Prim.Native.Nat.{ℕ, _<_}
+use mathlib.Core.Path.{_≡_, refl, sym, ap, _∙_}
 use mathlib.Core.Bool.{Bool, true, false, cond, not, _&&_, and-true, and-false, and-not-self}
-use mathlib.Core.List.{List, [], _∷_}
-use native.Mathlib.Omega.{arith}
-use borrow.Author.Tests.{ne-eqb}
-use lib.Dec.{eqb, ltb, eqb·suc-suc}
-use lib.ListN.{getD, set}
-use Rattle.ports.specs.Sets.{aui, has}
-use Rattle.ports.proofs.Each.{each-keeps}
+use borrow.Author.Tests.{eqb-true, ltb-false}
+use lib.Dec.{eqb, ltb}
+use Rattle.ports.specs.declared.Quiet.{Quiet}
+use Rattle.ports.specs.Sets.{aui, has, setOf}
 use Rattle.port.specs.declared.Port.{Port}
 use Rattle.port.specs.declared.Meeting.{Meeting}
 use Rattle.port.specs.declared.Change.{Change}
 use Rattle.port.specs.declared.Change.the-variants.{Disabling, EnablingTp, EnablingAui, StoppingTest, StartingTest}
-use Rattle.burst.specs.declared.Burst.{Burst}
+use Rattle.port.specs.Partition.{partitioning, afterMeeting}
+use Rattle.port.specs.Settings.{changed}
+use Rattle.port.proofs.Kept.{revived-at-keeps}
+use Rattle.burst.specs.declared.Activity.{Activity}
+use Rattle.burst.specs.declared.Bus.{Bus}
 use Rattle.burst.specs.declared.Hearing.{Hearing}
 use Rattle.burst.specs.declared.Effect.{Effect}
+use Rattle.burst.specs.Burst.{effectOf}
+use Rattle.burst.specs.Clean.{cleanAt}
+use Rattle.burst.specs.Marks.{marksOf}
 use Rattle.management.specs.declared.Setting.{Setting}
 use Rattle.management.specs.declared.Setting.the-variants.{AlternateAui, AlternateTp, DisableAui, EnableAui, DisableTp, EnableTp, LinkTestOff, LinkTestOn}
 use Rattle.management.specs.declared.Query.{Query}
+use Rattle.management.specs.Status.{marked, clearedBy}
 use Rattle.repeater.specs.declared.Repeater.{Repeater}
 use Rattle.repeater.specs.declared.Those.the-variants.{Enabled}
-use Rattle.port.specs.Port.{noPort}
-use Rattle.repeater.specs.Hearing.{hearingOf}
-use Rattle.burst.specs.Burst.{effectOf}
-use Rattle.repeater.specs.Hearing.{meetingOf}
-use Rattle.port.specs.Partition.{partitioning, afterMeeting}
-use Rattle.port.specs.Settings.{changed}
-use Rattle.repeater.specs.Repeater.{tickedAll, pulsedAll, alternateFor, partitionedAt, portAfter, followed, burstOf, changedAt, changedTp, setTo, gotOf, among, enabledOf}
+use Rattle.repeater.specs.Door.{withAlternate, placesOf, portAt, eachPort}
+use Rattle.repeater.specs.Hearing.{hearingOf, meetingOf}
+use Rattle.repeater.specs.Repeater.{quieted, alternateFor, partitionedAt, portAfter, followed, burstOf, changedAt, changedTp, setTo, gotOf, among, enabledOf}
 use Rattle.repeater.specs.Events.{disables}
-use Rattle.repeater.proofs.RepeaterLaws.{those-has}
-use Rattle.port.proofs.Kept.{revived-at-keeps}
-use Rattle.repeater.proofs.Kept.{ticks-keep, pulses-keep}
+use Rattle.repeater.proofs.DoorLaws.{those-has, port-past, port-put, port-status, port-alternate, each-port-keeps}
+use Rattle.repeater.proofs.Kept.{quiet-keeps}
 
 abbrev pub enabledIn : Repeater → ℕ → Bool
-enabledIn r i = getD (r .ports) i noPort .enabled
+enabledIn r i = portAt r i .enabled
 
 pub enabled-at : (r : Repeater) (i : ℕ) → i < 16 → has (enabledOf r) i ≡ enabledIn r i
 unfolding among
-enabled-at r i h = those-has Enabled (r .ports) i h
+enabled-at r i h = those-has Enabled r i h
 
 -- BURSTS, TICKS, LINK PULSES, GETS
 
@@ -58,30 +58,31 @@ meeting-keeps m p =
     either (p .partitioned) p _ _ (either (m .reconnecting) p _ p refl refl)
     (either (m .collided) p _ _ (either (partitioning m (p .count)) p _ _ refl refl) (either (m .clean) p _ p refl refl))
 
-module _ (forAui forTp : Bool) (g : Hearing) (f : Effect) (b : Burst) where
-  burst-keeps : (i : ℕ) (p : Port) → portAfter forAui forTp g f b i p .enabled ≡ p .enabled
+module _ (forAui forTp : Bool) (hearing : Hearing) (effect : Effect) (activity : Activity) (clean : ℕ) where
+  burst-keeps : (i : ℕ) (p : Port) → portAfter forAui forTp hearing effect activity clean i p .enabled ≡ p .enabled
   unfolding portAfter partitionedAt
   burst-keeps i p =
-      let m : Meeting = meetingOf g f b (alternateFor forAui forTp i) i in
-      rw (revived-at-keeps (λ (q : Port). q .enabled) (λ q pass idle pulses. refl) (b .mask) i (cond (has (g .t) i) (afterMeeting m p) p))
-      (either (has (g .t) i) p (afterMeeting m p) p (meeting-keeps m p) refl)
+      let m : Meeting = meetingOf effect activity clean (alternateFor forAui forTp i) i in
+      let met : Port = cond (has (hearing .t) i) (afterMeeting m p) p in
+      revived-at-keeps (λ (q : Port). q .enabled) (λ q pass idle pulses. refl) (activity .mask) i met
+      ∙ either (has (hearing .t) i) p (afterMeeting m p) p (meeting-keeps m p) refl
 
-pub enabled-bursted : (r : Repeater) (b : Burst) (i : ℕ) → enabledIn (burstOf r b .repeater) i ≡ enabledIn r i
+pub enabled-bursted : (r : Repeater) (activity : Activity) (i : ℕ) → enabledIn (burstOf r activity .repeater) i ≡ enabledIn r i
 unfolding burstOf followed
-enabled-bursted r b i =
-    let g : Hearing = hearingOf (r .ports) b in
-    each-keeps (λ (p : Port). p .enabled) (portAfter (r .«alternate_aui») (r .«alternate_tp») g (effectOf g b) b) (r .ports) i noPort
-    (burst-keeps (r .«alternate_aui») (r .«alternate_tp») g (effectOf g b) b)
+enabled-bursted r activity i =
+    let hearing : Hearing = hearingOf r activity in
+    let effect : Effect = effectOf Bus.Nothing hearing activity in
+    let clean : ℕ = setOf (cleanAt hearing effect) in
+    let after : ℕ → Port → Port = portAfter (r .«alternate_aui») (r .«alternate_tp») hearing effect activity clean in
+    ap (λ (p : Port). p .enabled) (port-status (eachPort after r) (marked (r .status) (marksOf effect activity)) i)
+    ∙ each-port-keeps (λ (p : Port). p .enabled) r after (burst-keeps (r .«alternate_aui») (r .«alternate_tp») hearing effect activity clean) i
 
-pub enabled-ticked : (r : Repeater) (i : ℕ) → enabledIn (tickedAll r) i ≡ enabledIn r i
-enabled-ticked r i = ticks-keep (λ (p : Port). p .enabled) (λ p pass idle pulses. refl) r i
-
-pub enabled-pulsed : (r : Repeater) (m i : ℕ) → enabledIn (pulsedAll r m) i ≡ enabledIn r i
-enabled-pulsed r m i = pulses-keep (λ (p : Port). p .enabled) (λ p pass idle pulses. refl) r m i
+pub enabled-quieted : (q : Quiet) (r : Repeater) (i : ℕ) → enabledIn (quieted q r) i ≡ enabledIn r i
+enabled-quieted q r i = quiet-keeps (λ (p : Port). p .enabled) (λ p pass idle pulses. refl) q r i
 
 pub enabled-got : (q : Query) (r : Repeater) (i : ℕ) → enabledIn (gotOf q r .repeater) i ≡ enabledIn r i
 unfolding gotOf
-enabled-got q r i = refl
+enabled-got q r i = ap (λ (p : Port). p .enabled) (port-status r (clearedBy q (r .status)) i)
 
 -- SETS
 
@@ -92,7 +93,8 @@ isDisabling EnablingAui = false
 isDisabling StoppingTest = false
 isDisabling StartingTest = false
 
-changed-here : (how : Change) (p : Port) (a b : Bool) → p .enabled ≡ a → p .«link_test» ≡ b → (p .enabled && not (changed how p .enabled)) ≡ (isDisabling how && p .enabled)
+changed-here : (how : Change) (p : Port) (a b : Bool) → p .enabled ≡ a → p .«link_test» ≡ b
+    → (p .enabled && not (changed how p .enabled)) ≡ (isDisabling how && p .enabled)
 unfolding changed
 changed-here Disabling p true b h k = rw h
 changed-here Disabling p false b h k = rw h
@@ -108,17 +110,19 @@ changed-here StartingTest p a false h k = rw k (and-not-self (p .enabled))
 elsewhere : (a b : Bool) → (a && not a) ≡ (b && false && a)
 elsewhere a b = rw (and-false b) (and-not-self a)
 
-changed-there : (how : Change) (ps : List Port) (k i : ℕ)
-    → (getD ps i noPort .enabled && not (getD (set ps k (changed how (getD ps k noPort))) i noPort .enabled)) ≡ (isDisabling how && eqb i k && getD ps i noPort .enabled)
-changed-there how [] k i = rw and-false
-changed-there how (p ∷ ps) zero zero = rw and-true (changed-here how p (p .enabled) (p .«link_test») refl refl)
-changed-there how (p ∷ ps) zero (suc i) = rw (ne-eqb (suc i) 0 (λ e. omega arith)) (elsewhere (getD ps i noPort .enabled) (isDisabling how))
-changed-there how (p ∷ ps) (suc k) zero = rw (ne-eqb 0 (suc k) (λ e. omega arith)) (elsewhere (p .enabled) (isDisabling how))
-changed-there how (p ∷ ps) (suc k) (suc i) = rw (eqb·suc-suc i k) (changed-there how ps k i)
-
-changed-at : (how : Change) (k : ℕ) (r : Repeater) (i : ℕ) → (enabledIn r i && not (enabledIn (changedAt how k r) i)) ≡ (isDisabling how && eqb i k && enabledIn r i)
+changed-at : (how : Change) (k : ℕ) (r : Repeater) (i : ℕ)
+    → (enabledIn r i && not (enabledIn (changedAt how k r) i)) ≡ (isDisabling how && eqb i k && enabledIn r i)
 unfolding changedAt
-changed-at how k r i = changed-there how (r .ports) k i
+changed-at how k r i =
+    ap (λ (p : Port). enabledIn r i && not (p .enabled)) (port-put r k (changed how (portAt r k)) i) ∙ go (eqb i k) (ltb k (placesOf r)) refl refl
+  where
+    go : (a b : Bool) → eqb i k ≡ a → ltb k (placesOf r) ≡ b
+        → (enabledIn r i && not (cond (a && b) (changed how (portAt r k)) (portAt r i) .enabled)) ≡ (isDisabling how && a && enabledIn r i)
+    go true true e l = rw (eqb-true i k e, and-true (isDisabling how)) (changed-here how (portAt r k) (portAt r k .enabled) (portAt r k .«link_test») refl refl)
+    go true false e l =
+        let none : enabledIn r i ≡ false = ap (λ (p : Port). p .enabled) (port-past r i (rw (eqb-true i k e) (ltb-false k (placesOf r) l))) in
+        and-not-self (enabledIn r i) ∙ sym (ap (λ (t : Bool). isDisabling how && true && t) none ∙ and-false (isDisabling how && true))
+    go false b e l = elsewhere (enabledIn r i) (isDisabling how)
 
 changed-tp : (how : Change) (k : ℕ) (r : Repeater) (i : ℕ)
     → (enabledIn r i && not (enabledIn (changedTp how k r) i)) ≡ (isDisabling how && ltb k aui && eqb i k && enabledIn r i)
@@ -129,10 +133,14 @@ changed-tp how k r i = go (ltb k aui)
     go true = rw (and-true (isDisabling how)) (changed-at how k r i)
     go false = rw (and-false (isDisabling how)) (and-not-self (enabledIn r i))
 
+-- another algorithm enables and disables nobody
+alternate-keeps : (r : Repeater) (forAui forTp : Bool) (i : ℕ) → (enabledIn r i && not (enabledIn (withAlternate r forAui forTp) i)) ≡ false
+alternate-keeps r forAui forTp i = ap (λ (p : Port). enabledIn r i && not (p .enabled)) (port-alternate r forAui forTp i) ∙ and-not-self (enabledIn r i)
+
 pub enabled-set : (s : Setting) (r : Repeater) (i : ℕ) → (enabledIn r i && not (enabledIn (setTo s r) i)) ≡ (disables s i && enabledIn r i)
 unfolding setTo disables
-enabled-set AlternateAui r i = and-not-self (enabledIn r i)
-enabled-set AlternateTp r i = and-not-self (enabledIn r i)
+enabled-set AlternateAui r i = alternate-keeps r true (r .«alternate_tp») i
+enabled-set AlternateTp r i = alternate-keeps r (r .«alternate_aui») true i
 enabled-set DisableAui r i = changed-at Disabling aui r i
 enabled-set EnableAui r i = changed-at EnablingAui aui r i
 enabled-set (DisableTp k) r i = changed-tp Disabling k r i

@@ -7,41 +7,35 @@
 --   five-bytes, six-bytes, then-a-frame == an address written, and replaced by a frame
 --   selected-at, brink-six, row-at, broken-at == P and R, and the bytes of D writes in a row
 use Prim.Native.Nat.{ℕ, _*_, _%_, _^_, _≤_, _<_}
-use mathlib.Core.Path.{_≡_, refl, sym, subst}
+use mathlib.Core.Path.{_≡_, refl, sym, ap, subst}
 use mathlib.Core.Bool.{Bool, true, false}
 use mathlib.Core.List.{List, [], _∷_, _++_, map}
 use lib.Dec.{lit<, lit≤}
-use lib.ListN.{length, getD, take, drop, replicate, getD-replicate}
+use lib.ListN.{length, getD, take, drop, replicate}
 use Rattle.ports.specs.Sets.{aui}
-use Rattle.attributes.specs.declared.Attributes.{Attributes}
-use Rattle.attributes.specs.Credits.{noAttributes}
-use Rattle.himib.specs.declared.octets.Check.the-variants.{Yes}
-use Rattle.himib.specs.Octets.{differenceOf, checkOf}
-use Rattle.pass.specs.Runs.{Point, Happening, happening, history, run, start, Given, kindOf, accepted, ifBurst, counterAt, transmitCollisions, totalOctets, addressAt}
-use Rattle.pass.specs.Pass.{credit, collisionCredit, octetCredit, sumOf, sumOver, writtenByte, completes, addressGiven, lastGiven}
+use Rattle.attributes.specs.declared.octets.Check.the-variants.{Yes}
+use Rattle.attributes.specs.Octets.{differenceOf, checkOf}
+use Rattle.attributes.specs.Sums.{sumOver}
+use Rattle.attributes.proofs.NineLaws.{address-alike}
+use Rattle.himib.specs.Runs.{Point, Happening, happening, start, Given, accepted, ifBurst, historyOf, runOf, allAt}
+use Rattle.himib.specs.Runs.{counterAt, transmitCollisions, totalOctets, addressAt}
+use Rattle.pass.specs.Judged.{happens, history, run}
+use Rattle.pass.specs.Pass.{credit, collisionCredit, octetCredit, sumOf, writtenByte, completes, addressGiven, lastGiven}
 use Rattle.pass.specs.HostPast.{pageBy, registerBy, rowAfter, inARow}
-use Rattle.pass.specs.Examples.{burstRecord, pulseRecord, cWriteRecord, dWriteRecord, dReadRecord, resetRecord}
-use Rattle.pass.proofs.Computing.{step-computes, found, foundAfter, found-once, found-after-once}
+use Rattle.record.specs.Records.{burstRecord, pulseRecord, cWriteRecord, dWriteRecord, dReadRecord, resetRecord}
+use Rattle.himib.proofs.Runs.{all-given, found, foundAfter, found-once, found-after-once}
+use Rattle.pass.proofs.Computing.{step-computes}
 
 -- THE COUNTERS
 
 abbrev last : ℕ
 last = 4294967295
 
-abbrev full : Attributes
-full = record { counters = replicate 13 last; address = replicate 6 0 }
-
 abbrev brink : Point
-brink = start (replicate 9 full) last last
+brink = start (allAt last)
 
-brink-given : Given (replicate 9 full) last last
-brink-given = record {
-  ports = refl;
-  thirteen = λ i l. rw (getD-replicate 9 i full noAttributes l);
-  low = λ i r l m. rw (getD-replicate 9 i full noAttributes l, getD-replicate 13 r last 0 m) (lit< tt);
-  collisions-low = lit< tt;
-  octets-low = lit< tt;
-}
+brink-given : Given (allAt last)
+brink-given = all-given last (lit< tt)
 
 abbrev sender : List ℕ
 sender = 2 ∷ 0 ∷ 0 ∷ 7 ∷ 8 ∷ 9 ∷ []
@@ -65,27 +59,27 @@ registers = 0 ∷ 1 ∷ 2 ∷ 3 ∷ 4 ∷ 5 ∷ 6 ∷ 7 ∷ 8 ∷ 9 ∷ 10 ∷ 1
 abbrev countedOf : ℕ → Point → List Happening → List (List ℕ)
 countedOf i p hs = map (λ r. counterAt i r p) registers ∷ map (λ r. sumOf (credit i r) hs) registers ∷ []
 
-aui-counted : found (countedOf aui) brink mixed
+aui-counted : found happens (countedOf aui) brink mixed
     ≡ (1 ∷ 127 ∷ last ∷ last ∷ last ∷ last ∷ last ∷ 0 ∷ 0 ∷ last ∷ last ∷ last ∷ 0 ∷ [])
     ∷ (2 ∷ 128 ∷ 0 ∷ 0 ∷ 0 ∷ 0 ∷ 0 ∷ 1 ∷ 1 ∷ 0 ∷ 0 ∷ 0 ∷ 1 ∷ [])
     ∷ []
-unfolding step-computes happening run history credit sumOf ifBurst
-aui-counted = found-once (countedOf aui) brink mixed refl
+unfolding step-computes happening runOf historyOf credit sumOf ifBurst
+aui-counted = found-once happens (countedOf aui) brink mixed refl
 
-tp0-counted : found (countedOf 0) brink mixed
+tp0-counted : found happens (countedOf 0) brink mixed
     ≡ (0 ∷ 1517 ∷ last ∷ last ∷ last ∷ last ∷ 0 ∷ 0 ∷ 0 ∷ last ∷ last ∷ last ∷ 0 ∷ [])
     ∷ (1 ∷ 1518 ∷ 0 ∷ 0 ∷ 0 ∷ 0 ∷ 1 ∷ 1 ∷ 1 ∷ 0 ∷ 0 ∷ 0 ∷ 1 ∷ [])
     ∷ []
-unfolding step-computes happening run history credit sumOf ifBurst
-tp0-counted = found-once (countedOf 0) brink mixed refl
+unfolding step-computes happening runOf historyOf credit sumOf ifBurst
+tp0-counted = found-once happens (countedOf 0) brink mixed refl
 
 -- Transmit Collisions and its credits, Total Octets and its credits
 abbrev totalsOf : Point → List Happening → List ℕ
 totalsOf p hs = transmitCollisions p ∷ sumOf collisionCredit hs ∷ totalOctets p ∷ sumOf octetCredit hs ∷ []
 
-totals-counted : found totalsOf brink mixed ≡ 0 ∷ 1 ∷ 1645 ∷ 1646 ∷ []
-unfolding step-computes happening run history collisionCredit octetCredit sumOf ifBurst
-totals-counted = found-once totalsOf brink mixed refl
+totals-counted : found happens totalsOf brink mixed ≡ 0 ∷ 1 ∷ 1645 ∷ 1646 ∷ []
+unfolding step-computes happening runOf historyOf collisionCredit octetCredit sumOf ifBurst
+totals-counted = found-once happens totalsOf brink mixed refl
 
 -- TWO READINGS
 
@@ -107,9 +101,9 @@ readingsOf q p hs =
     ∷ counterAt aui 1 p ∷ moves aui 1 q p ∷ sumOf (credit aui 1) hs
     ∷ []
 
-read-at : found (readingsOf earlier) earlier rest ≡ last ∷ 1 ∷ 2 ∷ 2 ∷ 127 ∷ 128 ∷ 128 ∷ []
-unfolding step-computes happening run history credit sumOf ifBurst
-read-at = found-once (readingsOf earlier) earlier rest refl
+read-at : found happens (readingsOf earlier) earlier rest ≡ last ∷ 1 ∷ 2 ∷ 2 ∷ 127 ∷ 128 ∷ 128 ∷ []
+unfolding step-computes happening runOf historyOf credit sumOf ifBurst
+read-at = found-once happens (readingsOf earlier) earlier rest refl
 
 -- Transmit Collisions and its credits; Total Octets, TP0's octets, and the nine ports' octets together
 abbrev totalsMoved : Point → Point → List Happening → List ℕ
@@ -118,9 +112,9 @@ totalsMoved q p hs =
     ∷ differenceOf (totalOctets p) (totalOctets q) ∷ moves 0 1 q p ∷ sumOver 9 (λ i. moves i 1 q p) % 2 ^ 32
     ∷ []
 
-totals-at : found (totalsMoved earlier) earlier rest ≡ 1 ∷ 1 ∷ 1646 ∷ 1518 ∷ 1646 ∷ []
-unfolding step-computes happening run history collisionCredit sumOf ifBurst sumOver
-totals-at = found-once (totalsMoved earlier) earlier rest refl
+totals-at : found happens (totalsMoved earlier) earlier rest ≡ 1 ∷ 1 ∷ 1646 ∷ 1518 ∷ 1646 ∷ []
+unfolding step-computes happening runOf historyOf collisionCredit sumOf ifBurst sumOver
+totals-at = found-once happens (totalsMoved earlier) earlier rest refl
 
 -- frames credited, and what the readings of frames and octets differ by
 abbrev Bounded : ℕ → ℕ → ℕ → Type 0
@@ -155,21 +149,21 @@ sixBytes = 1 ∷ 2 ∷ 3 ∷ 4 ∷ 5 ∷ 6 ∷ []
 abbrev addressOf : Point → List Happening → List (List ℕ)
 addressOf p hs = addressAt aui p ∷ lastGiven aui (addressAt aui brink) hs ∷ []
 
-five-bytes : found addressOf brink five ≡ replicate 6 0 ∷ replicate 6 0 ∷ []
-unfolding step-computes happening run history kindOf accepted credit ifBurst writtenByte addressGiven lastGiven
-five-bytes = found-once addressOf brink five refl
+five-bytes : found happens addressOf brink five ≡ replicate 6 0 ∷ replicate 6 0 ∷ []
+unfolding step-computes happening runOf historyOf accepted credit ifBurst writtenByte addressGiven lastGiven
+five-bytes = found-once happens addressOf brink five refl
 
-six-bytes : found addressOf brink (five ++ take 2 more) ≡ sixBytes ∷ sixBytes ∷ []
-unfolding step-computes happening run history kindOf accepted credit ifBurst writtenByte addressGiven lastGiven
-six-bytes = found-once addressOf brink (five ++ take 2 more) refl
+six-bytes : found happens addressOf brink (five ++ take 2 more) ≡ sixBytes ∷ sixBytes ∷ []
+unfolding step-computes happening runOf historyOf accepted credit ifBurst writtenByte addressGiven lastGiven
+six-bytes = found-once happens addressOf brink (five ++ take 2 more) refl
 
 -- the frame, and the runt after it
 abbrev bursts : List (List (List ℕ))
 bursts = take 1 (drop 2 more) ∷ drop 2 more ∷ []
 
-then-a-frame : foundAfter addressOf brink (five ++ take 2 more) bursts ≡ (sender ∷ sender ∷ []) ∷ (sender ∷ sender ∷ []) ∷ []
-unfolding step-computes happening run history kindOf accepted credit ifBurst writtenByte addressGiven lastGiven
-then-a-frame = found-after-once addressOf brink (five ++ take 2 more) bursts refl
+then-a-frame : foundAfter happens addressOf brink (five ++ take 2 more) bursts ≡ (sender ∷ sender ∷ []) ∷ (sender ∷ sender ∷ []) ∷ []
+unfolding step-computes happening runOf historyOf accepted credit ifBurst writtenByte addressGiven lastGiven
+then-a-frame = found-after-once happens addressOf brink (five ++ take 2 more) bursts refl
 
 -- THE HOST'S RECORD
 
@@ -184,25 +178,29 @@ abbrev none-or-all : List (List (List ℕ))
 none-or-all = [] ∷ drop 2 deselected ∷ []
 
 -- after the first two of them, and after all
-selected-at : foundAfter chosenOf brink (take 2 deselected) none-or-all ≡ (31 ∷ 14 ∷ 31 ∷ 14 ∷ []) ∷ (0 ∷ 3 ∷ 0 ∷ 3 ∷ []) ∷ []
-unfolding step-computes happening run history kindOf writtenByte pageBy registerBy
-selected-at = found-after-once chosenOf brink (take 2 deselected) none-or-all refl
+selected-at : foundAfter happens chosenOf brink (take 2 deselected) none-or-all ≡ (31 ∷ 14 ∷ 31 ∷ 14 ∷ []) ∷ (0 ∷ 3 ∷ 0 ∷ 3 ∷ []) ∷ []
+unfolding step-computes happening runOf historyOf writtenByte pageBy registerBy
+selected-at = found-after-once happens chosenOf brink (take 2 deselected) none-or-all refl
 
-brink-six : (i : ℕ) → i < 9 → length (getD (replicate 9 full) i noAttributes .address) ≡ 6
-brink-six i l = rw (getD-replicate 9 i full noAttributes l)
+brink-six : (i : ℕ) → i < 9 → length (addressAt i brink) ≡ 6
+brink-six i l = ap length (address-alike _ i l)
 
 -- one record more: whether it completes AUI's address, and the bytes in a row with it
 abbrev metBy : List ℕ → Point → List Happening → Bool × List ℕ
-metBy r p hs = let h : Happening = happening p r in (completes aui h, rowAfter (inARow [] hs) h)
+metBy r p hs = let h : Happening = happens p r in (completes aui h, rowAfter (inARow [] hs) h)
 
 -- the sixth byte, which the copy in the record ends with, and the seventh
-row-at : (found (metBy (dWriteRecord 6)) brink five ≡ (true, sixBytes))
-    × (happening (run brink five) (dWriteRecord 6) .after .host .bytes ≡ sixBytes)
-    × (found (metBy (dWriteRecord 7)) brink (five ++ take 1 more) ≡ (false, sixBytes ++ (7 ∷ [])))
-unfolding step-computes happening run history kindOf accepted writtenByte inARow
-row-at = (found-once (metBy (dWriteRecord 6)) brink five refl, refl {a = sixBytes}, found-once (metBy (dWriteRecord 7)) brink (five ++ take 1 more) refl)
+row-at : (found happens (metBy (dWriteRecord 6)) brink five ≡ (true, sixBytes))
+    × (happens (run brink five) (dWriteRecord 6) .after .host .bytes ≡ sixBytes)
+    × (found happens (metBy (dWriteRecord 7)) brink (five ++ take 1 more) ≡ (false, sixBytes ++ (7 ∷ [])))
+unfolding step-computes happening runOf historyOf accepted writtenByte inARow
+row-at = (
+  found-once happens (metBy (dWriteRecord 6)) brink five refl,
+  refl {a = sixBytes},
+  found-once happens (metBy (dWriteRecord 7)) brink (five ++ take 1 more) refl,
+)
 
 -- a D read after the fifth byte, and then the sixth
-broken-at : found (metBy (dWriteRecord 6)) brink (five ++ (dReadRecord ∷ [])) ≡ (false, 6 ∷ [])
-unfolding step-computes happening run history kindOf accepted writtenByte inARow
-broken-at = found-once (metBy (dWriteRecord 6)) brink (five ++ (dReadRecord ∷ [])) refl
+broken-at : found happens (metBy (dWriteRecord 6)) brink (five ++ (dReadRecord ∷ [])) ≡ (false, 6 ∷ [])
+unfolding step-computes happening runOf historyOf accepted writtenByte inARow
+broken-at = found-once happens (metBy (dWriteRecord 6)) brink (five ++ (dReadRecord ∷ [])) refl

@@ -3,7 +3,6 @@ pub mod Computing
 pub mod Accesses
 pub mod Enabled
 pub mod Partition
-pub mod AddressCounter
 pub mod ChangeBits
 pub mod Instances
 pub mod Credited

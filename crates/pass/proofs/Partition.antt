@@ -10,38 +10,46 @@ use mathlib.Core.Bool.{Bool, true, false, cond, not, _&&_, _||_, and-not-self, t
 use mathlib.Core.List.{List, [], _∷_, _++_, map}
 use native.Mathlib.Omega.{arith}
 use lib.Dec.{eqb, lit<, lit≤}
-use lib.ListN.{getD, replicate}
+use lib.ListN.{replicate}
 use Rattle.ports.specs.Sets.{has}
+use Rattle.record.specs.declared.Access.{Access}
+use Rattle.record.specs.declared.Access.the-variants.{WriteC, WriteD, ReadC, ReadD}
 use Rattle.record.specs.declared.Asked.{Asked}
 use Rattle.record.specs.declared.Asked.the-variants as ask
 use Rattle.record.specs.Refusals.{recordOf}
+use Rattle.record.specs.Accepted.{kindNumber}
+use Rattle.record.specs.Records.{noAddress, burstRecord, pulseRecord, cWriteRecord, dWriteRecord, resetRecord}
+use Rattle.history.specs.History.{Event, collided, neither, cleared, Standing, connected, partitioned, afterEvent}
+use Rattle.history.specs.History.{since, Struck, long, many, isPartitioned, struck}
+use Rattle.history.proofs.Past.{Keeps, told-exactly}
 use Rattle.port.specs.declared.Port.{Port}
+use Rattle.port.specs.Standing.{standingOf, eventOf}
+use Rattle.port.proofs.Standing.{stays}
 use Rattle.management.specs.declared.Setting.{Setting}
 use Rattle.repeater.specs.declared.Repeater.{Repeater}
 use Rattle.repeater.specs.declared.Those.the-variants.{Partitioned}
-use Rattle.repeater.specs.Repeater.{setTo, gotOf, tickedAll, pulsedAll, burstOf, among, enabledOf, partitionedOf}
-use Rattle.port.specs.Port.{noPort}
-use Rattle.history.specs.History.{Event, collided, neither, cleared, Standing, connected, partitioned, afterEvent, since, Struck, long, many, isPartitioned, struck}
-use Rattle.port.specs.Standing.{standingOf, eventOf}
+use Rattle.repeater.specs.Door.{portAt}
+use Rattle.repeater.specs.Repeater.{quieted, setTo, gotOf, burstOf, among, enabledOf, partitionedOf}
 use Rattle.repeater.specs.Events.{standingAt, followedEvent, burstEvent, setEvent}
-use Rattle.repeater.proofs.RepeaterLaws.{those-has}
-use Rattle.port.proofs.Standing.{stays}
-use Rattle.history.proofs.Past.{Keeps, told-exactly}
-use Rattle.repeater.proofs.Events.{burst-moves, tick-moves, pulse-moves, get-moves, set-moves, reset-moves, up-connected}
+use Rattle.repeater.proofs.DoorLaws.{those-has}
+use Rattle.repeater.proofs.Events.{burst-moves, quiet-moves, get-moves, set-moves, reset-moves, up-connected}
 use Rattle.host.specs.declared.Host.{Host}
-use Rattle.attributes.specs.declared.Attributes.{Attributes}
-use Rattle.himib.specs.declared.core.Core.{Core}
-use Rattle.himib.specs.declared.step.Chip.{Chip}
-use Rattle.himib.specs.Bursts.{wired, burstCore, burstOn}
-use Rattle.himib.specs.Chip.{moved}
-use Rattle.himib.specs.Access.{cReadOf, dReadOf, dWriteOf, obeyed}
-use Rattle.himib.specs.Step.{actOn, taken, stepOf}
-use Rattle.pass.specs.Runs.{Point, Happening, happening, history, run, start, kindOf, ifBurst, repeaterAt, partitionedAt}
+use Rattle.attributes.specs.declared.Nine.{Nine}
+use Rattle.chip.specs.declared.Core.{Core}
+use Rattle.chip.specs.declared.Chip.{Chip}
+use Rattle.chip.specs.Chip.{moved}
+use Rattle.access.specs.Access.{cReadOf, dReadOf, dWriteOf, obeyed, served}
+use Rattle.himib.specs.Bursts.{activityOf, burstCore, notedOn, burstOn}
+use Rattle.himib.specs.Step.{taken, stepOf}
+use Rattle.himib.specs.Runs.{Point, Happening, happening, start, ifBurst, repeaterAt, partitionedAt, historyOf, runOf}
+use Rattle.himib.proofs.Runs.{found, foundAfter, found-once, found-after-once}
+use Rattle.pass.specs.Judged.{happens, history, run}
 use Rattle.pass.specs.Pass.{eventAt, PartitionByPast}
-use Rattle.pass.specs.Examples.{noAddress, burstRecord, pulseRecord, cWriteRecord, dWriteRecord, resetRecord, up}
-use Rattle.pass.proofs.Computing.{step-computes, found, foundAfter, found-once, found-after-once}
+use Rattle.pass.specs.Examples.{up}
+use Rattle.pass.proofs.Computing.{step-computes}
+use Rattle.record.proofs.KindLaws.{quiet-is-no, access-is-no}
 use Rattle.pass.proofs.Accesses.{after-write, after-read}
-use Rattle.pass.proofs.Enabled.{enabledIn, enabled-at, enabled-bursted, enabled-ticked, enabled-pulsed, enabled-got, enabled-set}
+use Rattle.pass.proofs.Enabled.{enabledIn, enabled-at, enabled-bursted, enabled-quieted, enabled-got, enabled-set}
 
 -- AT THE BOUNDARIES
 
@@ -87,41 +95,41 @@ endings = [] ∷ crowd ∷ (crowd ++ alone 512) ∷ (crowd ++ alone 513) ∷ (cr
 
 abbrev TpBoundaries : Type 0
 TpBoundaries =
-    foundAfter both up (crowded 31) endings
+    foundAfter happens both up (crowded 31) endings
     ≡ (no ∷ no ∷ []) ∷ (yes ∷ yes ∷ []) ∷ (yes ∷ yes ∷ []) ∷ (no ∷ yes ∷ []) ∷ (no ∷ yes ∷ []) ∷ (no ∷ no ∷ []) ∷ []
 
 tp-boundaries : TpBoundaries
-unfolding step-computes run history happening eventAt eventOf followedEvent burstEvent kindOf ifBurst
-tp-boundaries = found-after-once both up (crowded 31) endings refl
+unfolding step-computes runOf historyOf happening eventAt eventOf followedEvent burstEvent ifBurst
+tp-boundaries = found-after-once happens both up (crowded 31) endings refl
 
 -- after 31 collisions of AUI: nothing, and a 32nd; and one collision alone
 abbrev auiEndings : List (List (List ℕ))
 auiEndings = [] ∷ signalled 1 300 ∷ []
 
 abbrev AuiBoundaries : Type 0
-AuiBoundaries = foundAfter (told 8) up (signalled 31 300) auiEndings ≡ no ∷ yes ∷ []
+AuiBoundaries = foundAfter happens (told 8) up (signalled 31 300) auiEndings ≡ no ∷ yes ∷ []
 
 aui-boundaries : AuiBoundaries
-unfolding step-computes run history happening eventAt eventOf followedEvent burstEvent kindOf ifBurst
-aui-boundaries = found-after-once (told 8) up (signalled 31 300) auiEndings refl
+unfolding step-computes runOf historyOf happening eventAt eventOf followedEvent burstEvent ifBurst
+aui-boundaries = found-after-once happens (told 8) up (signalled 31 300) auiEndings refl
 
 abbrev LongBoundary : Type 0
-LongBoundary = (found (told 8) up (signalled 1 1024) ≡ no) × (found (told 8) up (signalled 1 1025) ≡ yes)
+LongBoundary = (found happens (told 8) up (signalled 1 1024) ≡ no) × (found happens (told 8) up (signalled 1 1025) ≡ yes)
 
 long-boundary : LongBoundary
-unfolding step-computes run history happening eventAt eventOf followedEvent burstEvent kindOf ifBurst
-long-boundary = (found-once (told 8) up (signalled 1 1024) refl, found-once (told 8) up (signalled 1 1025) refl)
+unfolding step-computes runOf historyOf happening eventAt eventOf followedEvent burstEvent ifBurst
+long-boundary = (found-once happens (told 8) up (signalled 1 1024) refl, found-once happens (told 8) up (signalled 1 1025) refl)
 
 at-boundaries : TpBoundaries × AuiBoundaries × LongBoundary
 at-boundaries = (tp-boundaries, aui-boundaries, long-boundary)
 
 -- the two ways of being struck
 struck-by-32 : Struck (since (map (eventAt 0) (history up (crowded 32))))
-unfolding step-computes history happening eventAt eventOf followedEvent burstEvent kindOf ifBurst
+unfolding step-computes historyOf happening eventAt eventOf followedEvent burstEvent ifBurst
 struck-by-32 = many (replicate 4 neither) (replicate 32 (collided 300)) [] (lit≤ tt) refl
 
 struck-by-1025 : Struck (since (map (eventAt 8) (history up (signalled 1 1025))))
-unfolding step-computes history happening eventAt eventOf followedEvent burstEvent kindOf ifBurst
+unfolding step-computes historyOf happening eventAt eventOf followedEvent burstEvent ifBurst
 struck-by-1025 = long [] [] 1025 (lit< tt)
 
 -- ONE RECORD
@@ -129,8 +137,8 @@ struck-by-1025 = long [] [] 1025 (lit< tt)
 -- a record's event to port i, by the repeater before and after it
 abbrev eventFor : ℕ → Asked → Repeater → Repeater → Event
 eventFor i a r q =
-    cond (eqb (kindOf a) 8 || (has (enabledOf r) i && not (has (enabledOf q) i))) cleared
-    (ifBurst neither (λ b. burstEvent r (wired b) i) a)
+    cond (eqb (kindNumber a) 8 || (has (enabledOf r) i && not (has (enabledOf q) i))) cleared
+    (ifBurst neither (λ b. burstEvent r (activityOf b) i) a)
 
 -- a record that is no reset is the event e to port i, unless it disables the port
 abbrev otherwise : ℕ → Event → Repeater → Repeater → Event
@@ -140,7 +148,7 @@ abbrev Moves : ℕ → Repeater → Repeater → Event → Type 0
 Moves i r q e = standingAt q i ≡ afterEvent (standingAt r i) e
 
 -- a read leaves the repeater alone
-read-same : (c : Core) (nine : List Attributes) (h : Host) → c .repeater ≡ dReadOf c nine h .core .repeater
+read-same : (c : Core) (nine : Nine) (h : Host) → c .repeater ≡ dReadOf c nine h .core .repeater
 read-same c nine h = after-read 0 (λ d b. c .repeater ≡ d .repeater) c refl (λ k. refl) nine h
 
 module _ (i : ℕ) (l : i < 16) where
@@ -155,7 +163,8 @@ module _ (i : ℕ) (l : i < 16) where
   unfolding setEvent
   set-stood s r = rw (enabled-at r i l, enabled-at (setTo s r) i l, enabled-set s r i) (set-moves s r i)
 
-  write-stood : (c : Core) (h : Host) (b : ℕ) → Moves i (c .repeater) (dWriteOf c h b .core .repeater) (otherwise i neither (c .repeater) (dWriteOf c h b .core .repeater))
+  write-stood : (c : Core) (h : Host) (b : ℕ)
+      → Moves i (c .repeater) (dWriteOf c h b .core .repeater) (otherwise i neither (c .repeater) (dWriteOf c h b .core .repeater))
   unfolding obeyed moved
   write-stood c h b =
       let r : Repeater = c .repeater in
@@ -164,33 +173,36 @@ module _ (i : ℕ) (l : i < 16) where
       (λ k. same r)
       h
 
+  access-stood : (a : Access) (c : Core) (nine : Nine) (h : Host)
+      → Moves i (c .repeater) (served a c nine h .core .repeater) (otherwise i neither (c .repeater) (served a c nine h .core .repeater))
+  unfolding served cReadOf
+  access-stood (WriteC b) c nine h = same (c .repeater)
+  access-stood (WriteD b) c nine h = write-stood c h b
+  access-stood ReadC c nine h = same (c .repeater)
+  access-stood ReadD c nine h = rw (← read-same c nine h) (same (c .repeater))
+
   taken-moves : (a : Asked) (source : List ℕ) (s : Chip) (h : Host)
       → Moves i (s .core .repeater) (taken a source s h .chip .core .repeater) (eventFor i a (s .core .repeater) (taken a source s h .chip .core .repeater))
-  unfolding taken actOn moved burstOn burstCore cReadOf kindOf ifBurst
+  unfolding taken moved notedOn burstOn burstCore ifBurst
   taken-moves (ask.Burst b) source s h =
       let r : Repeater = s .core .repeater in
-      stood r (burstOf r (wired b) .repeater) (burstEvent r (wired b) i) (enabled-bursted r (wired b) i) (burst-moves r (wired b) i)
-  taken-moves (ask.Pulse m) source s h =
+      stood r (burstOf r (activityOf b) .repeater) (burstEvent r (activityOf b) i) (enabled-bursted r (activityOf b) i) (burst-moves r (activityOf b) i)
+  taken-moves (ask.Quiet q) source s h =
       let r : Repeater = s .core .repeater in
-      stood r (pulsedAll r m) neither (enabled-pulsed r m i) (pulse-moves r m i)
-  taken-moves ask.Tick source s h =
-      let r : Repeater = s .core .repeater in
-      stood r (tickedAll r) neither (enabled-ticked r i) (tick-moves r i)
-  taken-moves (ask.WriteC b) source s h = same (s .core .repeater)
-  taken-moves (ask.WriteD b) source s h = write-stood (s .core) h b
-  taken-moves ask.ReadC source s h = same (s .core .repeater)
-  taken-moves ask.ReadD source s h = rw (← read-same (s .core) (s .attributes) h) (same (s .core .repeater))
+      rw (quiet-is-no 8 refl q) (stood r (quieted q r) neither (enabled-quieted q r i) (quiet-moves q r i))
+  taken-moves (ask.Access a) source s h = rw (access-is-no 8 refl refl refl refl a) (access-stood a (s .core) (s .attributes) h)
   taken-moves ask.Reset source s h = reset-moves (s .core .repeater) i
   taken-moves (ask.Refused k) source s h = same (s .core .repeater)
 
-  pub moves : (p : Point) (bs : List ℕ) → Moves i (repeaterAt p) (repeaterAt (happening p bs .after)) (eventAt i (happening p bs))
+  pub moves : (p : Point) (bs : List ℕ) → Moves i (repeaterAt p) (repeaterAt (happens p bs .after)) (eventAt i (happens p bs))
   unfolding happening stepOf eventAt
   moves p bs = taken-moves (recordOf bs .asked) (recordOf bs .source) (p .chip) (p .host)
 
   -- ALL RECORDS
 
-  keeps : Keeps (λ (p : Point). Unit) (λ p. standingAt (repeaterAt p) i) (λ p bs. happening p bs .after) (λ p bs. eventAt i (happening p bs)) run (λ p rs. map (eventAt i) (history p rs))
-  unfolding run history
+  keeps : Keeps (λ (p : Point). Unit) (λ p. standingAt (repeaterAt p) i) (λ p bs. happens p bs .after) (λ p bs. eventAt i (happens p bs)) run
+      (λ p rs. map (eventAt i) (history p rs))
+  unfolding runOf historyOf
   keeps = record {
     after-none = λ p. refl;
     after-more = λ p r rs. refl;
@@ -214,15 +226,15 @@ is-partitioned partitioned h = refl
 
 test-at : (r : Repeater) (i : ℕ) → i < 16 → has (partitionedOf r) i ≡ isPartitioned (standingAt r i)
 unfolding among
-test-at r i h = those-has Partitioned (r .ports) i h ∙ sym (standing-test (getD (r .ports) i noPort))
+test-at r i h = those-has Partitioned r i h ∙ sym (standing-test (portAt r i))
 
 pub partition-by-past : PartitionByPast
-partition-by-past nine collisions octets rs i l =
+partition-by-past given rs i l =
     let m : i < 16 = omega arith in
-    let p : Point = run (start nine collisions octets) rs in
+    let p : Point = run (start given) rs in
     let t =
-    told-exactly (λ (p : Point). Unit) (λ p. standingAt (repeaterAt p) i) (λ p bs. happening p bs .after) (λ p bs. eventAt i (happening p bs)) run
-    (λ p rs. map (eventAt i) (history p rs)) (keeps i m) (start nine collisions octets) rs tt (up-connected i) in
+    told-exactly (λ (p : Point). Unit) (λ p. standingAt (repeaterAt p) i) (λ p bs. happens p bs .after) (λ p bs. eventAt i (happens p bs)) run
+    (λ p rs. map (eventAt i) (history p rs)) (keeps i m) (start given) rs tt (up-connected i) in
     record {
       forth = λ h. t .forth (is-partitioned (standingAt (repeaterAt p) i) (sym (test-at (repeaterAt p) i m) ∙ h));
       back = λ k. test-at (repeaterAt p) i m ∙ ap isPartitioned (t .back k);

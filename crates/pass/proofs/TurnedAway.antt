@@ -9,19 +9,21 @@ use Rattle.host.specs.declared.Host.{Host}
 use Rattle.answer.specs.declared.Answer.{Answer}
 use Rattle.answer.specs.declared.Answer.the-variants.{Done, Sent, Value, Refused}
 use Rattle.answer.specs.Answer.{numberOf}
-use Rattle.himib.specs.declared.step.Chip.{Chip}
-use Rattle.himib.specs.declared.step.Stepped.{Stepped}
-use Rattle.himib.specs.Step.{stepOf}
+use Rattle.chip.specs.declared.Chip.{Chip}
+use Rattle.himib.specs.declared.Stepped.{Stepped}
+use Rattle.himib.specs.Step.{turned, stepOf}
 use Rattle.himib.proofs.Refused.{refused-untouched}
-use Rattle.pass.specs.Runs.{Point, happening, run, accepted, counterAt}
+use Rattle.himib.specs.Runs.{Point, happening, accepted, counterAt, runOf}
+use Rattle.pass.specs.Judged.{happens, run}
 use Rattle.pass.specs.Pass.{TurnedAwayIsStill, OneOutcome}
-use Rattle.pass.specs.Examples.{burstRecord, noAddress, pulseRecord, plainRecord, cWriteRecord, dWriteRecord, dReadRecord, up}
+use Rattle.record.specs.Records.{burstRecord, noAddress, pulseRecord, plainRecord, cWriteRecord, dWriteRecord, dReadRecord}
+use Rattle.pass.specs.Examples.{up}
 use Rattle.pass.proofs.Computing.{step-computes}
 
 -- INSTANCE
 
--- One refusal of each number but 10, which is the octet check's. The chip has a frame behind it, and the host's record is three bytes into a write of TP0's address
--- when it meets the first six; for the others a register that is not listed, and S, are selected.
+-- One refusal of each number but 10, which is the octet check's. The chip has a frame behind it, and the host's record is three bytes into a write of TP0's
+-- address when it meets the first six; for the others a register that is not listed, and S, are selected.
 abbrev written : Point
 written =
     run up
@@ -34,13 +36,13 @@ abbrev setting : Point
 setting = run written (cWriteRecord 0x00 ∷ cWriteRecord 0xfe ∷ [])
 
 abbrev turnedFrom : Point → ℕ → Stepped
-turnedFrom p k = record { chip = p .chip; host = p .host; answer = Refused k }
+turnedFrom p k = turned (p .chip) (p .host) k
 
 abbrev meets : Point → List ℕ → Stepped
 meets p bs = stepOf (p .chip) (p .host) bs
 
 three-bytes : (written .host .place ≡ 3) × (counterAt 8 0 written ≡ 1)
-unfolding step-computes happening run
+unfolding step-computes happening runOf
 three-bytes = (refl {a = 3}, refl {a = 1})
 
 -- the bytes alone decide the first six, wherever they are met
@@ -74,7 +76,7 @@ unfolding step-computes
 by-selection s = (refl, (refl, refl))
 
 selected : (selecting (unlisted .chip) 3 14 .host ≡ unlisted .host) × (selecting (setting .chip) 0 30 .host ≡ setting .host)
-unfolding step-computes happening run
+unfolding step-computes happening runOf
 selected = (refl, refl)
 
 abbrev beside : Point → Host → Point
@@ -99,7 +101,7 @@ not-accepted (Sent w out) e = absurd (true≢false e)
 not-accepted (Value v) e = absurd (true≢false e)
 not-accepted (Refused k) e = refl
 
-pub host-left : (p : Point) (r : List ℕ) → accepted (happening p r .answer) ≡ false → happening p r .after .host ≡ p .host
+pub host-left : (p : Point) (r : List ℕ) → accepted (happens p r .answer) ≡ false → happens p r .after .host ≡ p .host
 unfolding happening
 host-left p r e = let a = stepOf (p .chip) (p .host) r .answer in turned-away-is-still (p .chip) (p .host) r (numberOf a) (not-accepted a e) .1
 

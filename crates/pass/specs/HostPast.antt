@@ -10,12 +10,11 @@ use mathlib.Core.Path.{_≡_}
 use mathlib.Core.Bool.{true, cond, _&&_, _||_}
 use mathlib.Core.List.{List, [], _∷_, _++_}
 use lib.Dec.{eqb}
-use lib.ListN.{length, getD, drop}
-use Rattle.attributes.specs.declared.Attributes.{Attributes}
-use Rattle.attributes.specs.Credits.{noAttributes}
-use Rattle.himib.specs.Access.{addressOf}
-use Rattle.pass.specs.Runs.{Point, Happening, happening, history, run, start, Given, asked, selects, writes, reads, resets}
-use Rattle.pass.specs.Pass.{registerOf, writtenByte, completes}
+use lib.ListN.{length, drop}
+use Rattle.chip.specs.declared.Supply.{Supply}
+use Rattle.himib.specs.Runs.{Point, Happening, start, Given, asked, selects, writes, reads, resets, addressAt}
+use Rattle.pass.specs.Judged.{happens, history, run}
+use Rattle.pass.specs.Pass.{roleOf, isAddress, writtenByte, completes}
 
 -- the top three bits of the written byte: 000 selects P, 111 selects R
 abbrev pub pageAfter : ℕ → Happening → ℕ
@@ -34,9 +33,9 @@ registerBy q (h ∷ hs) = registerBy (registerAfter q h) hs
 
 abbrev pub SelectionByPast : Type 0
 SelectionByPast =
-    (nine : List Attributes) (collisions octets : ℕ) (rs : List (List ℕ))
-    → (run (start nine collisions octets) rs .host .page ≡ pageBy 0 (history (start nine collisions octets) rs))
-    × (run (start nine collisions octets) rs .host .register ≡ registerBy 0 (history (start nine collisions octets) rs))
+    (given : Supply) (rs : List (List ℕ))
+    → (run (start given) rs .host .page ≡ pageBy 0 (history (start given) rs))
+    × (run (start given) rs .host .register ≡ registerBy 0 (history (start given) rs))
 
 abbrev pub rowAfter : List ℕ → Happening → List ℕ
 rowAfter bs h = cond (selects h || reads h || resets h) [] (cond (writes h) (bs ++ writtenByte (asked h) ∷ []) bs)
@@ -47,13 +46,13 @@ inARow bs (h ∷ hs) = inARow (rowAfter bs h) hs
 
 -- of a record h that comes at the point p, with the row as it stands after h
 pub record EverySixth (p : Point) (h : Happening) (row : List ℕ) (i : ℕ) : Type 0 where
-  pub exactly : completes i h ≡ (writes h && eqb (addressOf (registerOf p)) i && eqb (length row % 6) 0)
+  pub exactly : completes i h ≡ (writes h && isAddress i (roleOf p) && eqb (length row % 6) 0)
   pub gives : completes i h ≡ true → h .after .host .bytes ≡ drop (length row - 6) row
 
 -- the caller gives addresses of six bytes
 abbrev pub AddressWritesByPast : Type 0
 AddressWritesByPast =
-    (nine : List Attributes) (collisions octets : ℕ) → Given nine collisions octets → ((i : ℕ) → i < 9 → length (getD nine i noAttributes .address) ≡ 6)
+    (given : Supply) → Given given → ((i : ℕ) → i < 9 → length (addressAt i (start given)) ≡ 6)
     → (rs : List (List ℕ)) (r : List ℕ) (i : ℕ) → i < 9
-    → EverySixth (run (start nine collisions octets) rs) (happening (run (start nine collisions octets) rs) r)
-    (rowAfter (inARow [] (history (start nine collisions octets) rs)) (happening (run (start nine collisions octets) rs) r)) i
+    → EverySixth (run (start given) rs) (happens (run (start given) rs) r)
+    (rowAfter (inARow [] (history (start given) rs)) (happens (run (start given) rs) r)) i

@@ -1,5 +1,5 @@
 -- What a pass means.
-pub mod Runs
+pub mod Judged
 pub mod Pass
 pub mod Examples
 pub mod HostPast

@@ -1,19 +1,23 @@
--- What a pass means: the three demands, over any list of records from power-up. This file and the definitions that it cites are what a reader must believe; proofs/ shows
--- that each statement holds, and docs/PASS.md has the same in plain English, line by line. Nothing here looks into the mechanism that is promised: a change of a port's
--- state is seen by comparing the chip before and after a record, and not by a change bit.
+-- What a pass means: the three demands, over any list of records from power-up. This file and the definitions that it cites are what a reader must believe;
+-- proofs/ shows that each statement holds, and docs/PASS.md has the same in plain English, line by line. Nothing here looks into the mechanism that is
+-- promised: a change of a port's state is seen by comparing the chip before and after a record, and not by a change bit.
 -- Assumes nothing.
-use Prim.Native.Nat.{ℕ, zero, suc, _+_, _*_, _%_, _^_, _≤_, _<_}
+use Prim.Native.Nat.{ℕ, _+_, _*_, _%_, _^_, _≤_, _<_}
 use mathlib.Core.Path.{_≡_}
 use mathlib.Core.Bool.{Bool, true, false, cond, not, _&&_, _||_, Bool·beq}
 use mathlib.Core.List.{List, [], _∷_, map}
 use mathlib.Core.Option.{Option, none, some}
 use lib.Dec.{eqb}
 use lib.ListN.{length, getD, take}
+use Rattle.spelling.specs.Spelling.{spelt}
 use Rattle.ports.specs.Sets.{aui, has, without}
 use Rattle.record.specs.declared.Burst.{Burst}
+use Rattle.record.specs.declared.Access.{Access}
+use Rattle.record.specs.declared.Access.the-variants as access
 use Rattle.record.specs.declared.Asked.{Asked}
 use Rattle.record.specs.declared.Asked.the-variants as ask
 use Rattle.record.specs.Refusals.{recordOf}
+use Rattle.record.specs.Accepted.{kindNumber}
 use Rattle.repeater.specs.declared.Bursted.{Bursted}
 use Rattle.repeater.specs.Repeater.{burstOf, partitionedOf}
 use Rattle.repeater.specs.Events.{burstEvent}
@@ -21,22 +25,26 @@ use Rattle.history.specs.Exactly.{Exactly}
 use Rattle.history.specs.History.{Event, neither, cleared, since, Struck}
 use Rattle.host.specs.declared.Host.{Host}
 use Rattle.host.specs.declared.Register.{Register}
-use Rattle.host.specs.declared.Register.the-variants as reg
-use Rattle.host.specs.Map.{sizeOf}
+use Rattle.host.specs.declared.Role.{Role}
+use Rattle.host.specs.declared.Role.the-variants as role
 use Rattle.host.specs.Sequence.{placeFor, wroteByte}
-use Rattle.host.specs.Bytes.{spelt}
 use Rattle.answer.specs.declared.Answer.{Answer}
 use Rattle.answer.specs.declared.Answer.the-variants.{Refused}
 use Rattle.answer.specs.Answer.{outputsOf, byteOf}
-use Rattle.attributes.specs.declared.Attributes.{Attributes}
-use Rattle.attributes.specs.Credits.{changedOf, shareOf, creditsOf, octetsOf, transmitCollisionsOf}
-use Rattle.himib.specs.declared.step.Chip.{Chip}
-use Rattle.himib.specs.declared.octets.Check.the-variants.{Yes}
-use Rattle.himib.specs.Bursts.{wired}
-use Rattle.himib.specs.Access.{selectedBy, valueOf, addressOf}
+use Rattle.attributes.specs.declared.Met.{Met}
+use Rattle.attributes.specs.declared.Due.{Due}
+use Rattle.attributes.specs.declared.octets.Check.the-variants.{Yes}
+use Rattle.attributes.specs.Credits.{dueOf, creditOf}
+use Rattle.attributes.specs.Octets.{differenceOf, checkOf}
+use Rattle.attributes.specs.Sums.{sumOver}
+use Rattle.chip.specs.declared.Supply.{Supply}
+use Rattle.chip.specs.declared.Chip.{Chip}
+use Rattle.access.specs.Access.{selectedBy, valueOf, numberOf}
+use Rattle.himib.specs.Bursts.{activityOf}
 use Rattle.himib.specs.Step.{stepOf}
-use Rattle.himib.specs.Octets.{differenceOf, checkOf}
-use Rattle.pass.specs.Runs.{Point, Happening, happening, history, run, start, Given, asked, source, kindOf, selects, writes, reads, resets, ifBurst, repeaterAt, partitionedAt, linkedAt, enabledAt, counterAt, transmitCollisions, totalOctets, addressAt}
+use Rattle.himib.specs.Runs.{Point, Happening, start, Given, asked, source, selects, writes, reads, resets, ifBurst}
+use Rattle.himib.specs.Runs.{repeaterAt, partitionedAt, linkedAt, enabledAt, counterAt, transmitCollisions, totalOctets, addressAt}
+use Rattle.pass.specs.Judged.{happens, history, run}
 
 -- ---- Demand 1: every record is answered, and what is turned away changes nothing
 
@@ -58,16 +66,21 @@ unfoldable pub undisturbed : List Happening → Bool
 undisturbed [] = true
 undisturbed (h ∷ hs) = not (selects h || writes h || resets h) && undisturbed hs
 
+-- the register that is selected, its bytes, and what it is for
 abbrev pub registerOf : Point → Register
-registerOf p = selectedBy (p .host)
+registerOf p = selectedBy (p .host) .register
 
 abbrev pub bytesOf : Point → ℕ
-bytesOf p = sizeOf (registerOf p)
+bytesOf p = selectedBy (p .host) .size
 
--- from point p a byte sequence begins with the D read r, and at least as many D reads as the register has bytes are among r and the undisturbed records rs after it
+abbrev pub roleOf : Point → Role
+roleOf p = selectedBy (p .host) .role
+
+-- from point p a byte sequence begins with the D read r, and at least as many D reads as the register has bytes are among r and the undisturbed records rs
+-- after it
 pub record Sequence (p : Point) (r : List ℕ) (rs : List (List ℕ)) : Type 0 where
   pub begins : placeFor false (bytesOf p) (p .host) ≡ 0
-  pub first : reads (happening p r) ≡ true
+  pub first : reads (happens p r) ≡ true
   pub quiet : undisturbed (history p (r ∷ rs)) ≡ true
   pub enough : bytesOf p ≤ length (bytesRead (history p (r ∷ rs)))
 
@@ -77,25 +90,16 @@ SequenceIsOneValue =
     (p : Point) (r : List ℕ) (rs : List (List ℕ)) → Sequence p r rs → (i : ℕ) → i < bytesOf p
     → getD (bytesRead (history p (r ∷ rs))) i 0 ≡ getD (valueOf (p .chip .core) (p .chip .attributes) (registerOf p)) i 0
 
--- the number in a four-byte register
-unfoldable pub numberIn : Register → Point → ℕ
-numberIn reg.Unlisted p = 0
-numberIn reg.TransmitCollisions p = transmitCollisions p
-numberIn reg.TotalOctets p = totalOctets p
-numberIn reg.Version p = 0
-numberIn reg.SetPort p = 0
-numberIn reg.GetPort p = 0
-numberIn (reg.Change r) p = 0
-numberIn (reg.Enable r) p = 0
-numberIn (reg.Counter i r) p = counterAt i r p
-numberIn (reg.Address i) p = 0
+-- the number in a four-byte register: a counter of a port, or one of the chip's two
+abbrev pub numberIn : Register → Point → ℕ
+numberIn register p = numberOf (p .chip .core) (p .chip .attributes) register
 
 abbrev pub FourBytes : Type 0
 FourBytes =
-    (nine : List Attributes) (collisions octets : ℕ) → Given nine collisions octets → (before : List (List ℕ)) (r : List ℕ) (rs : List (List ℕ))
-    → bytesOf (run (start nine collisions octets) before) ≡ 4 → Sequence (run (start nine collisions octets) before) r rs
-    → spelt (take 4 (bytesRead (history (run (start nine collisions octets) before) (r ∷ rs))))
-    ≡ numberIn (registerOf (run (start nine collisions octets) before)) (run (start nine collisions octets) before)
+    (given : Supply) → Given given → (before : List (List ℕ)) (r : List ℕ) (rs : List (List ℕ))
+    → bytesOf (run (start given) before) ≡ 4 → Sequence (run (start given) before) r rs
+    → spelt (take 4 (bytesRead (history (run (start given) before) (r ∷ rs))))
+    ≡ numberIn (registerOf (run (start given) before)) (run (start given) before)
 
 -- ---- Demand 3: the past alone decides
 
@@ -103,12 +107,12 @@ FourBytes =
 unfoldable pub eventAt : ℕ → Happening → Event
 eventAt i h =
     cond (resets h || (enabledAt (h .before) i && not (enabledAt (h .after) i))) cleared
-    (ifBurst neither (λ b. burstEvent (repeaterAt (h .before)) (wired b) i) (asked h))
+    (ifBurst neither (λ b. burstEvent (repeaterAt (h .before)) (activityOf b) i) (asked h))
 
 abbrev pub PartitionByPast : Type 0
 PartitionByPast =
-    (nine : List Attributes) (collisions octets : ℕ) (rs : List (List ℕ)) (i : ℕ) → i < 9
-    → Exactly (partitionedAt (run (start nine collisions octets) rs) i ≡ true) (Struck (since (map (eventAt i) (history (start nine collisions octets) rs))))
+    (given : Supply) (rs : List (List ℕ)) (i : ℕ) → i < 9
+    → Exactly (partitionedAt (run (start given) rs) i ≡ true) (Struck (since (map (eventAt i) (history (start given) rs))))
 
 -- bit j of change register R
 abbrev pub changeBit : ℕ → ℕ → Point → Bool
@@ -140,20 +144,15 @@ changes r j h =
     false))))))
 
 -- an accepted read of change register R, or a reset
-abbrev pub isChange : ℕ → Register → Bool
-isChange r reg.Unlisted = false
-isChange r reg.TransmitCollisions = false
-isChange r reg.TotalOctets = false
-isChange r reg.Version = false
-isChange r reg.SetPort = false
-isChange r reg.GetPort = false
-isChange r (reg.Change k) = eqb k r
-isChange r (reg.Enable k) = false
-isChange r (reg.Counter i k) = false
-isChange r (reg.Address i) = false
+abbrev pub isChange : ℕ → Role → Bool
+isChange r role.Plain = false
+isChange r (role.Cleared k) = eqb k r
+isChange r (role.Commands g) = false
+isChange r (role.Enables k) = false
+isChange r (role.Address i) = false
 
 abbrev pub clears : ℕ → Happening → Bool
-clears r h = resets h || (reads h && isChange r (registerOf (h .before)))
+clears r h = resets h || (reads h && isChange r (roleOf (h .before)))
 
 unfoldable pub noneOf : (Happening → Bool) → List Happening → Bool
 noneOf c [] = true
@@ -166,30 +165,33 @@ cameAfter e c (h ∷ hs) = cameAfter e c hs || (e h && not (c h) && noneOf c hs)
 
 abbrev pub ChangeBitsByPast : Type 0
 ChangeBitsByPast =
-    (nine : List Attributes) (collisions octets : ℕ) → Given nine collisions octets → (rs : List (List ℕ)) (r j : ℕ) → r < 8 → j < 8
-    → changeBit r j (run (start nine collisions octets) rs) ≡ cameAfter (changes r j) (clears r) (history (start nine collisions octets) rs)
+    (given : Supply) → Given given → (rs : List (List ℕ)) (r j : ℕ) → r < 8 → j < 8
+    → changeBit r j (run (start given) rs) ≡ cameAfter (changes r j) (clears r) (history (start given) rs)
 
--- what a record credits counter R of port i with, by document 01's credits
-abbrev pub burstCredit : ℕ → ℕ → Happening → Burst → Bursted → ℕ
-burstCredit i r h b t =
-    getD
-    (creditsOf
-    (shareOf (t .hearing) (t .effect) (without (partitionedOf (repeaterAt (h .after))) (partitionedOf (repeaterAt (h .before))))
-    (changedOf (t .hearing .heard) (t .effect) b (source h) (h .before .chip .attributes)) i)
-    b)
-    r 0
-
+-- what a burst is as the repeater met it, and what it is due then, by document 01's credits
 abbrev pub burstAt : Happening → Burst → Bursted
-burstAt h b = burstOf (repeaterAt (h .before)) (wired b)
+burstAt h b = burstOf (repeaterAt (h .before)) (activityOf b)
 
+abbrev pub metAt : Happening → Bursted → Met
+metAt h t = record {
+  heard = t .hearing .h;
+  single = t .effect .single;
+  collision = t .effect .collision;
+  cut = without (partitionedOf (repeaterAt (h .after))) (partitionedOf (repeaterAt (h .before)));
+}
+
+abbrev pub dueAt : Happening → Burst → Due
+dueAt h b = dueOf (h .before .chip .attributes) (metAt h (burstAt h b)) b (source h)
+
+-- what a record credits counter R of port i, Transmit Collisions and Total Octets with
 unfoldable pub credit : ℕ → ℕ → Happening → ℕ
-credit i r h = ifBurst 0 (λ b. burstCredit i r h b (burstAt h b)) (asked h)
+credit i r h = ifBurst 0 (λ b. creditOf (dueAt h b) b i r) (asked h)
 
 unfoldable pub collisionCredit : Happening → ℕ
-collisionCredit h = ifBurst 0 (λ b. transmitCollisionsOf (burstAt h b .hearing)) (asked h)
+collisionCredit h = ifBurst 0 (λ b. cond (burstAt h b .effect .«transmit_collision») 1 0) (asked h)
 
 unfoldable pub octetCredit : Happening → ℕ
-octetCredit h = ifBurst 0 (λ b. octetsOf (burstAt h b .hearing) (burstAt h b .effect) b) (asked h)
+octetCredit h = ifBurst 0 (λ b. dueAt h b .octets) (asked h)
 
 unfoldable pub sumOf : (Happening → ℕ) → List Happening → ℕ
 sumOf f [] = 0
@@ -203,13 +205,9 @@ pub record CountedFrom (p : Point) (rs : List (List ℕ)) : Type 0 where
 
 abbrev pub CountersByPast : Type 0
 CountersByPast =
-    (nine : List Attributes) (collisions octets : ℕ) → Given nine collisions octets → (rs : List (List ℕ)) → CountedFrom (start nine collisions octets) rs
+    (given : Supply) → Given given → (rs : List (List ℕ)) → CountedFrom (start given) rs
 
 -- between any two points of a run: what two readings of a counter differ by, and Total Octets against the nine ports' octets
-unfoldable pub sumOver : ℕ → (ℕ → ℕ) → ℕ
-sumOver zero f = 0
-sumOver (suc n) f = f n + sumOver n f
-
 pub record Between (p : Point) (rs : List (List ℕ)) : Type 0 where
   pub readings : (i r : ℕ) → i < 9 → r < 13 → differenceOf (counterAt i r (run p rs)) (counterAt i r p) ≡ sumOf (credit i r) (history p rs) % 2 ^ 32
   pub collisions : differenceOf (transmitCollisions (run p rs)) (transmitCollisions p) ≡ sumOf collisionCredit (history p rs) % 2 ^ 32
@@ -224,23 +222,32 @@ pub record Between (p : Point) (rs : List (List ℕ)) : Type 0 where
 
 abbrev pub ReadingsByPast : Type 0
 ReadingsByPast =
-    (nine : List Attributes) (collisions octets : ℕ) → Given nine collisions octets → (before rs : List (List ℕ)) → Between (run (start nine collisions octets) before) rs
+    (given : Supply) → Given given → (before rs : List (List ℕ)) → Between (run (start given) before) rs
 
 -- the address that a record gives port i: of its readable frame, or of a write completed with this record
+abbrev pub accessByte : Access → ℕ
+accessByte (access.WriteC b) = b
+accessByte (access.WriteD b) = b
+accessByte access.ReadC = 0
+accessByte access.ReadD = 0
+
 unfoldable pub writtenByte : Asked → ℕ
-writtenByte (ask.Refused k) = 0
 writtenByte (ask.Burst b) = 0
-writtenByte (ask.Pulse m) = 0
-writtenByte ask.Tick = 0
-writtenByte (ask.WriteC b) = b
-writtenByte (ask.WriteD b) = b
-writtenByte ask.ReadC = 0
-writtenByte ask.ReadD = 0
+writtenByte (ask.Quiet q) = 0
+writtenByte (ask.Access a) = accessByte a
 writtenByte ask.Reset = 0
+writtenByte (ask.Refused k) = 0
+
+abbrev pub isAddress : ℕ → Role → Bool
+isAddress i role.Plain = false
+isAddress i (role.Cleared k) = false
+isAddress i (role.Commands g) = false
+isAddress i (role.Enables k) = false
+isAddress i (role.Address k) = eqb k i
 
 abbrev pub completes : ℕ → Happening → Bool
 completes i h =
-    writes h && eqb (addressOf (registerOf (h .before))) i && wroteByte (bytesOf (h .before)) (writtenByte (asked h)) (h .before .host) .complete
+    writes h && isAddress i (roleOf (h .before)) && wroteByte (bytesOf (h .before)) (writtenByte (asked h)) (h .before .host) .complete
 
 unfoldable pub addressGiven : ℕ → Happening → Option (List ℕ)
 addressGiven i h = cond (eqb (credit i 0 h) 1) (some (source h)) (cond (completes i h) (some (h .after .host .bytes)) none)
@@ -256,13 +263,13 @@ lastGiven i s (h ∷ hs) = lastGiven i (orElse (addressGiven i h) s) hs
 
 abbrev pub AddressesByPast : Type 0
 AddressesByPast =
-    (nine : List Attributes) (collisions octets : ℕ) → Given nine collisions octets → (rs : List (List ℕ)) (i : ℕ) → i < 9
-    → addressAt i (run (start nine collisions octets) rs) ≡ lastGiven i (addressAt i (start nine collisions octets)) (history (start nine collisions octets) rs)
+    (given : Supply) → Given given → (rs : List (List ℕ)) (i : ℕ) → i < 9
+    → addressAt i (run (start given) rs) ≡ lastGiven i (addressAt i (start given)) (history (start given) rs)
 
 -- ---- Polling is harmless
 
 abbrev pub kindIn : List ℕ → ℕ
-kindIn r = kindOf (recordOf r .asked)
+kindIn r = kindNumber (recordOf r .asked)
 
 -- a C write, a C read, a D read, or bytes that are turned away as a record
 abbrev pub polls : List ℕ → Bool
@@ -279,7 +286,7 @@ noDWrite (r ∷ rs) = not (eqb (kindIn r) 5) && noDWrite rs
 -- the answers of the bursts: word and output mask
 unfoldable pub burstAnswers : List Happening → List Answer
 burstAnswers [] = []
-burstAnswers (h ∷ hs) = cond (eqb (kindOf (asked h)) 1) (h .answer ∷ burstAnswers hs) (burstAnswers hs)
+burstAnswers (h ∷ hs) = cond (eqb (kindNumber (asked h)) 1) (h .answer ∷ burstAnswers hs) (burstAnswers hs)
 
 pub record Alike (p q : Point) : Type 0 where
   pub ports : repeaterAt p ≡ repeaterAt q

@@ -13,15 +13,17 @@ use mathlib.Core.Logic.{_⊎_, inl, inr, _↔_}
 use native.Mathlib.Omega.{arith}
 use lib.Dec.{leb, ltb, eqb}
 use borrow.Author.Tests.{leb-false, ltb-true, ltb-false, eqb-true, eqb-false, not-false}
-use Rattle.record.specs.Record.{mask, source, byteAt, bytesFrom, bytesIn, littleEndian, numberIn, burstOf}
+use Rattle.record.specs.Record.{burstKind, tickKind, mask, source, byteAt, bytesFrom, bytesIn, numberIn, burstOf}
 use Rattle.record.specs.Record.{Kind, kinds, find, used, unused, allZero, strayFor, stray}
-use Rattle.record.specs.Refusals.{Row, badNumbers, nothingActive, selectsNeither, refusals, firstOf, askedBy, answer, recordOf}
+use Rattle.record.specs.Refusals.{burstMaskEnd, pulseMaskEnd, longest, mostDribble, badNumbers, nothingActive, selectsNeither}
+use Rattle.record.specs.Refusals.{Row, refusals, firstOf, askedBy, answer, recordOf}
 use Rattle.record.specs.Accepted.{kindNumber, BurstBounds, Bounded}
+use Rattle.record.specs.Records.{noAddress, pulseRecord, tickRecord}
 use Rattle.record.specs.declared.Asked.{Asked}
 use Rattle.record.specs.declared.Burst.{Burst}
 use Rattle.record.specs.declared.Record.{Record}
 use Rattle.record.proofs.Strays.{from}
-use Rattle.record.proofs.Sheet.{zeros, burst, pulse, short}
+use Rattle.record.proofs.Sheet.{burst}
 
 clash : {X : Type 0} → true ≡ false → X
 clash e = let z : _≡_ {A = ℕ} 0 1 = cc in absurd (omega arith)
@@ -102,8 +104,8 @@ cases P s f g = go (firstOf (refusals s)) refl
         known P s (find kinds (byteAt s 0)) (none-holds (refusals s) e .1 .0)
         (found (λ e. P (e .asks s)) (byteAt s 0) kinds (g e))
 
-decided-at : firstOf (refusals (pulse 3)) ≡ none
-unfolding firstOf refusals selectsNeither nothingActive badNumbers stray allZero unused used find littleEndian bytesFrom
+decided-at : firstOf (refusals (pulseRecord 3)) ≡ none
+unfolding firstOf refusals selectsNeither nothingActive badNumbers stray allZero unused used find bytesFrom
 decided-at = refl
 
 pub kind-decides : (s : List ℕ) → firstOf (refusals s) ≡ none → kindNumber (recordOf s .asked) ≡ byteAt s 0
@@ -121,7 +123,7 @@ kind-decides s h =
     ▸ end)
 
 refused-at : firstOf (refusals (burst 0 512 0 0 0 0 0)) ≡ some 3
-unfolding firstOf refusals selectsNeither nothingActive badNumbers stray allZero unused used find littleEndian bytesFrom
+unfolding firstOf refusals selectsNeither nothingActive badNumbers stray allZero unused used find bytesFrom
 refused-at = refl
 
 -- where no row holds the kind is not 0, the number of a refusal
@@ -143,18 +145,18 @@ all-fail false false false true e h = clash h
 all-fail false false false false e h = (refl, refl, refl, refl, h)
 
 -- a burst of which no row holds
-within : (b : Burst) → leb 512 (b .mask) ≡ false → badNumbers b ≡ false → nothingActive b ≡ false → BurstBounds b
+within : (b : Burst) → leb burstMaskEnd (b .mask) ≡ false → badNumbers b ≡ false → nothingActive b ≡ false → BurstBounds b
 unfolding badNumbers nothingActive
 within b high bad still =
     let octets = 8 * b .n + b .k in
     let collision = b .c + b .x in
-    let h = all-fail (eqb (b .d) 0) (ltb 1000000 (b .d)) (ltb 7 (b .k)) (ltb (b .d) octets) (ltb (b .d) collision) bad in
+    let h = all-fail (eqb (b .d) 0) (ltb longest (b .d)) (ltb mostDribble (b .k)) (ltb (b .d) octets) (ltb (b .d) collision) bad in
     record {
-      mask-below = leb-false 512 (b .mask) high;
+      mask-below = leb-false burstMaskEnd (b .mask) high;
       active = λ z. not-false (b .«collision_signal») (rw z at still);
       d-above = (let z = eqb-false (b .d) 0 (h .0) in omega arith);
-      d-within = ltb-false 1000000 (b .d) (h .1);
-      k-within = ltb-false 7 (b .k) (h .2);
+      d-within = ltb-false longest (b .d) (h .1);
+      k-within = ltb-false mostDribble (b .k) (h .2);
       octets-within = ltb-false (b .d) (8 * b .n + b .k) (h .3);
       collision-within = ltb-false (b .d) (b .c + b .x) (h .4);
     }
@@ -168,8 +170,8 @@ selecting w h = go (eqb (w / 32) 0) refl (not-false _ h)
     go true e k = inl (let h = eqb-true (w / 32) 0 e in omega arith)
     go false e k = let h = eqb-true (w / 32) 7 k in inr (omega arith, omega arith)
 
-bounded-at : kindNumber (recordOf (burst 0 511 1000000 64 7 512 999488) .asked) ≡ 1
-unfolding recordOf answer firstOf refusals selectsNeither nothingActive badNumbers stray allZero unused used find littleEndian bytesFrom
+bounded-at : kindNumber (recordOf (burst 0 511 1000000 64 7 512 999488) .asked) ≡ burstKind
+unfolding recordOf answer firstOf refusals selectsNeither nothingActive badNumbers stray allZero unused used find bytesFrom
 bounded-at = refl
 
 pub bounded : (s : List ℕ) → Bounded (recordOf s .asked)
@@ -185,7 +187,7 @@ bounded s = cases Bounded s (λ k e. digit k (first-number one-to-nine (refusals
     each : Fails (refusals s) → Each (λ e. Bounded (e .asks s)) (byteAt s 0) kinds
     each rows =
         (λ q. within (burstOf s) (or-left _ _ (rw q at (rows .1 .1 .0))) (rw q at (rows .1 .1 .1 .0)) (rw q at (rows .1 .1 .1 .1 .0)))
-        ▸ (λ q. leb-false 256 (numberIn s mask) (rw q at (rows .1 .1 .0)))
+        ▸ (λ q. leb-false pulseMaskEnd (numberIn s mask) (rw q at (rows .1 .1 .0)))
         ▸ (λ q. tt)
         ▸ (λ q. selecting (byteAt s 13) (rw q at (rows .1 .1 .1 .1 .1 .0)))
         ▸ (λ q. tt)
@@ -208,7 +210,7 @@ module _ (s : List ℕ) where
   zero-tail (i ∷ is) js h = zero-tail is js (zero-head i (is ++ js) h .1)
 
   -- a kind in which bytes 24 to 31 must be zero, after others
-  silent : (is : List ℕ) (t : Bool) → (not (allZero s (is ++ from 24 8)) || t) ≡ false → bytesIn s source ≡ zeros 6
+  silent : (is : List ℕ) (t : Bool) → (not (allZero s (is ++ from 24 8)) || t) ≡ false → bytesIn s source ≡ noAddress
   unfolding bytesFrom
   silent is t h =
       let a = zero-head 24 _ (zero-tail is _ (not-false _ (or-left _ t h))) in
@@ -220,24 +222,24 @@ module _ (s : List ℕ) where
       rw (a .0, b .0, c .0, d .0, e .0, f .0)
 
   abbrev Silent : Kind → Type 0
-  Silent e = strayFor (some e) s ≡ false → bytesIn s source ≡ zeros 6
+  Silent e = strayFor (some e) s ≡ false → bytesIn s source ≡ noAddress
 
-  silent-if : (o : Option Kind) → strayFor o s ≡ false → Found Silent o → bytesIn s source ≡ zeros 6
+  silent-if : (o : Option Kind) → strayFor o s ≡ false → Found Silent o → bytesIn s source ≡ noAddress
   silent-if none h f = clash h
   silent-if (some e) h f = f h
 
-silent-at : kindNumber (recordOf (short 3 0) .asked) ≡ 3
-unfolding recordOf answer firstOf refusals selectsNeither nothingActive badNumbers stray allZero unused used find littleEndian bytesFrom
+silent-at : kindNumber (recordOf tickRecord .asked) ≡ tickKind
+unfolding recordOf answer firstOf refusals selectsNeither nothingActive badNumbers stray allZero unused used find bytesFrom
 silent-at = refl
 
-pub source-zero : (s : List ℕ) → (byteAt s 0 ≡ 1 → ⊥) → recordOf s .source ≡ zeros 6
+pub source-zero : (s : List ℕ) → (byteAt s 0 ≡ burstKind → ⊥) → recordOf s .source ≡ noAddress
 unfolding recordOf answer refusals stray unused used
 source-zero s other = go (firstOf (refusals s)) refl
   where
-    bare : (t : Bool) → (not (allZero s (from 1 31)) || t) ≡ false → bytesIn s source ≡ zeros 6
+    bare : (t : Bool) → (not (allZero s (from 1 31)) || t) ≡ false → bytesIn s source ≡ noAddress
     bare t = silent s (from 1 23) t
 
-    write : (t : Bool) → (not (allZero s (from 1 12 ++ from 14 18)) || t) ≡ false → bytesIn s source ≡ zeros 6
+    write : (t : Bool) → (not (allZero s (from 1 12 ++ from 14 18)) || t) ≡ false → bytesIn s source ≡ noAddress
     write t = silent s (from 1 12 ++ from 14 10) t
 
     each : Each (Silent s) (byteAt s 0) kinds
@@ -252,7 +254,7 @@ source-zero s other = go (firstOf (refusals s)) refl
         ▸ (λ q. bare _)
         ▸ end
 
-    go : (o : Option ℕ) → firstOf (refusals s) ≡ o → answer o s .source ≡ zeros 6
+    go : (o : Option ℕ) → firstOf (refusals s) ≡ o → answer o s .source ≡ noAddress
     go (some k) e = refl
     go none e =
         silent-if s (find kinds (byteAt s 0)) (none-holds (refusals s) e .1 .0) (found (Silent s) (byteAt s 0) kinds each)

@@ -1,27 +1,21 @@
 -- Document 01's record and its refusals at chosen bytes: each number, each kind, each limit from both sides, and the order of
 -- the rows. The expected answers are read off the paper.
---     made                  the 32 bytes with these fields; burst, pulse and short leave out what the kind has no use for
 --     zero-places           the bytes that must be zero, kind by kind
+--     burst                 the bytes of a burst from a chosen address
 --     sheet, sheet-holds    bytes with what they ask for, and that they do
 -- Assumes nothing.
-use Prim.Native.Nat.{ℕ, zero, suc, _/_, _%_}
+use Prim.Native.Nat.{ℕ}
 use mathlib.Core.Path.{_≡_, refl}
 use mathlib.Core.List.{List, [], _∷_, _++_, map}
 use mathlib.Core.Bool.{true, false}
-use lib.ListN.{set}
-use Rattle.record.specs.Record.{bytesFrom, littleEndian, Kind, kinds, find, used, unused, mustBeZero, allZero, stray}
+use lib.ListN.{set, replicate}
+use Rattle.ports.specs.declared.Quiet.{Quiet}
+use Rattle.record.specs.Record.{tickKind, cReadKind, bytesFrom, Kind, kinds, find, used, unused, mustBeZero, allZero, stray}
 use Rattle.record.specs.Refusals.{badNumbers, nothingActive, selectsNeither, refusals, firstOf, answer, refused, recordOf}
+use Rattle.record.specs.Records.{burstRecord, plainRecord, pulseRecord, tickRecord, cWriteRecord, dWriteRecord, cReadRecord, dReadRecord, resetRecord}
+use Rattle.record.specs.declared.Access.{Access}
 use Rattle.record.specs.declared.Asked.{Asked}
 use Rattle.record.proofs.Strays.{from}
-
--- the n least significant bytes of v
-abbrev pub bytesOf : ℕ → ℕ → List ℕ
-bytesOf zero v = []
-bytesOf (suc n) v = v % 256 ∷ bytesOf n (v / 256)
-
-abbrev pub zeros : ℕ → List ℕ
-zeros zero = []
-zeros (suc n) = 0 ∷ zeros n
 
 pub zero-places :
     map (λ (e : Kind). mustBeZero (e .uses)) kinds
@@ -40,26 +34,15 @@ zero-places = refl
 abbrev pub address : List ℕ
 address = 0xa1 ∷ 0xb2 ∷ 0xc3 ∷ 0xd4 ∷ 0xe5 ∷ 0xf6 ∷ []
 
-abbrev pub made : (kind flags mask d n k written c x : ℕ) → List ℕ → List ℕ
-made q f m d n k w c x a =
-    q ∷ f ∷ (bytesOf 2 m ++ bytesOf 4 d ++ bytesOf 4 n ++ (k ∷ w ∷ zeros 2) ++ bytesOf 4 c ++ bytesOf 4 x ++ a ++ zeros 2)
-
 abbrev pub burst : (flags mask d n k c x : ℕ) → List ℕ
-burst f m d n k c x = made 1 f m d n k 0 c x address
-
-abbrev pub pulse : ℕ → List ℕ
-pulse m = made 2 0 m 0 0 0 0 0 0 (zeros 6)
-
--- a kind with at most a written byte
-abbrev pub short : (kind written : ℕ) → List ℕ
-short q w = made q 0 0 0 0 0 w 0 0 (zeros 6)
+burst flags mask d n k c x = burstRecord mask flags d n k c x address
 
 -- a burst without flags
 abbrev plain : (mask d n k c x : ℕ) → Asked
-plain m d n k c x =
+plain mask d n k c x =
     Asked.Burst
     (record {
-      mask = m;
+      mask = mask;
       «fcs_bad» = false;
       «rate_error» = false;
       «collision_signal» = false;
@@ -82,53 +65,53 @@ line s a = record { bytes = s; asked = a }
 abbrev kindLines : List Line
 kindLines =
     line (burst 0 1 1000 64 0 0 0) (plain 1 1000 64 0 0 0)
-    ∷ line (pulse 3) (Asked.Pulse 3)
-    ∷ line (short 3 0) Asked.Tick
-    ∷ line (short 4 0x10) (Asked.WriteC 0x10)
-    ∷ line (short 5 0xff) (Asked.WriteD 0xff)
-    ∷ line (short 6 0) Asked.ReadC
-    ∷ line (short 7 0) Asked.ReadD
-    ∷ line (short 8 0) Asked.Reset
+    ∷ line (pulseRecord 3) (Asked.Quiet (Quiet.Pulse 3))
+    ∷ line tickRecord (Asked.Quiet Quiet.Tick)
+    ∷ line (cWriteRecord 0x10) (Asked.Access (Access.WriteC 0x10))
+    ∷ line (dWriteRecord 0xff) (Asked.Access (Access.WriteD 0xff))
+    ∷ line cReadRecord (Asked.Access Access.ReadC)
+    ∷ line dReadRecord (Asked.Access Access.ReadD)
+    ∷ line resetRecord Asked.Reset
     ∷ []
 
 -- 9: no bytes, one too few, one too many, and before 8
 abbrev lengthLines : List Line
 lengthLines =
     line [] (Asked.Refused 9)
-    ∷ line (3 ∷ zeros 30) (Asked.Refused 9)
-    ∷ line (3 ∷ zeros 32) (Asked.Refused 9)
-    ∷ line (9 ∷ zeros 30) (Asked.Refused 9)
+    ∷ line (tickKind ∷ replicate 30 0) (Asked.Refused 9)
+    ∷ line (tickKind ∷ replicate 32 0) (Asked.Refused 9)
+    ∷ line (9 ∷ replicate 30 0) (Asked.Refused 9)
     ∷ []
 
 -- 8: kinds 0 and 9; byte 13 of a burst, before 3; its bytes 14, 15, 30, 31 and flag bit 5; a tick's flags and mask; byte 13 of
 -- a pulse, before 3; the mask of a C write, before 7; the source address of a D write; byte 13 of a C read
 abbrev strayLines : List Line
 strayLines =
-    line (short 0 0) (Asked.Refused 8)
-    ∷ line (short 9 0) (Asked.Refused 8)
+    line (plainRecord 0 0 0) (Asked.Refused 8)
+    ∷ line (plainRecord 9 0 0) (Asked.Refused 8)
     ∷ line (set (burst 0 512 1000 64 0 0 0) 13 1) (Asked.Refused 8)
     ∷ line (set (burst 0 1 1000 64 0 0 0) 14 1) (Asked.Refused 8)
     ∷ line (set (burst 0 1 1000 64 0 0 0) 15 1) (Asked.Refused 8)
     ∷ line (set (burst 0 1 1000 64 0 0 0) 30 1) (Asked.Refused 8)
     ∷ line (set (burst 0 1 1000 64 0 0 0) 31 128) (Asked.Refused 8)
     ∷ line (burst 32 1 1000 64 0 0 0) (Asked.Refused 8)
-    ∷ line (set (short 3 0) 1 4) (Asked.Refused 8)
-    ∷ line (set (short 3 0) 2 1) (Asked.Refused 8)
-    ∷ line (set (pulse 256) 13 1) (Asked.Refused 8)
-    ∷ line (set (short 4 0x20) 3 1) (Asked.Refused 8)
-    ∷ line (set (short 5 0) 29 1) (Asked.Refused 8)
-    ∷ line (short 6 1) (Asked.Refused 8)
+    ∷ line (set tickRecord 1 4) (Asked.Refused 8)
+    ∷ line (set tickRecord 2 1) (Asked.Refused 8)
+    ∷ line (set (pulseRecord 256) 13 1) (Asked.Refused 8)
+    ∷ line (set (cWriteRecord 0x20) 3 1) (Asked.Refused 8)
+    ∷ line (set (dWriteRecord 0) 29 1) (Asked.Refused 8)
+    ∷ line (plainRecord cReadKind 0 1) (Asked.Refused 8)
     ∷ []
 
--- 3: bit 9 of a burst's mask, before 2, and bit 8 of a pulse's; not the bits below. A pulse with mask 0 is accepted
+-- 3: bit 9 of a burst's mask, before 2, and bit 8 of a pulse's; not the bits below. A pulse's mask may be 0
 abbrev maskLines : List Line
 maskLines =
     line (burst 0 512 0 0 0 0 0) (Asked.Refused 3)
     ∷ line (burst 0 32768 1000 64 0 0 0) (Asked.Refused 3)
     ∷ line (burst 0 511 1000 64 0 0 0) (plain 511 1000 64 0 0 0)
-    ∷ line (pulse 256) (Asked.Refused 3)
-    ∷ line (pulse 255) (Asked.Pulse 255)
-    ∷ line (pulse 0) (Asked.Pulse 0)
+    ∷ line (pulseRecord 256) (Asked.Refused 3)
+    ∷ line (pulseRecord 255) (Asked.Quiet (Quiet.Pulse 255))
+    ∷ line (pulseRecord 0) (Asked.Quiet (Quiet.Pulse 0))
     ∷ []
 
 -- 2: d, k, 8n + k and c + x on either side of their limits; sums beyond 2 ^ 32; before 1, and with mask 0 and flag bit 2
@@ -175,25 +158,25 @@ portLines =
 -- 7: the first and the last byte that selects nothing, and their neighbours. It is no refusal of a D write
 abbrev selectLines : List Line
 selectLines =
-    line (short 4 0x1f) (Asked.WriteC 0x1f)
-    ∷ line (short 4 0x20) (Asked.Refused 7)
-    ∷ line (short 4 0xdf) (Asked.Refused 7)
-    ∷ line (short 4 0xe0) (Asked.WriteC 0xe0)
-    ∷ line (short 5 0x20) (Asked.WriteD 0x20)
+    line (cWriteRecord 0x1f) (Asked.Access (Access.WriteC 0x1f))
+    ∷ line (cWriteRecord 0x20) (Asked.Refused 7)
+    ∷ line (cWriteRecord 0xdf) (Asked.Refused 7)
+    ∷ line (cWriteRecord 0xe0) (Asked.Access (Access.WriteC 0xe0))
+    ∷ line (dWriteRecord 0x20) (Asked.Access (Access.WriteD 0x20))
     ∷ []
 
 abbrev pub sheet : List Line
 sheet = kindLines ++ lengthLines ++ strayLines ++ maskLines ++ numberLines ++ portLines ++ selectLines
 
 pub sheet-holds : map (λ (l : Line). recordOf (l .bytes) .asked) sheet ≡ map (λ (l : Line). l .asked) sheet
-unfolding recordOf answer firstOf refusals selectsNeither nothingActive badNumbers stray allZero unused used find littleEndian bytesFrom
+unfolding recordOf answer firstOf refusals selectsNeither nothingActive badNumbers stray allZero unused used find bytesFrom
 sheet-holds = refl
 
 -- the source address, bytes 24 to 29 in order, and beside a refusal
 pub source-in-order : recordOf (burst 0 1 1000 64 0 0 0) .source ≡ address
-unfolding recordOf answer firstOf refusals selectsNeither nothingActive badNumbers stray allZero unused used find littleEndian bytesFrom
+unfolding recordOf answer firstOf refusals selectsNeither nothingActive badNumbers stray allZero unused used find bytesFrom
 source-in-order = refl
 
 pub source-refused : recordOf (burst 0 1 0 64 0 0 0) ≡ refused 2
-unfolding recordOf answer firstOf refusals selectsNeither nothingActive badNumbers stray allZero unused used find littleEndian bytesFrom
+unfolding recordOf answer firstOf refusals selectsNeither nothingActive badNumbers stray allZero unused used find bytesFrom
 source-refused = refl

@@ -1,7 +1,7 @@
 -- The bytes that must be zero, by the sums and the tests with which the code asks for them.
 --     from i n             the n places from i on
 --     stray-shared         what every kind but a burst leaves zero, as one sum
---     stray-burst, -pulse, -write, -bare    row 8's condition for kind 1, 2, 4 and 3
+--     stray-burst, -pulse, -write, -bare    row 8's condition for a burst, a pulse, a C write and a tick
 -- Assumes nothing.
 use Prim.Native.Nat.{ℕ, zero, suc, _+_}
 use mathlib.Core.Path.{_≡_, refl, sym, ap, _∙_}
@@ -10,7 +10,9 @@ use mathlib.Core.Bool.{Bool, true, false, _&&_, _||_, not, and-assoc, and-comm, 
 use native.Mathlib.Omega.{arith}
 use lib.Dec.{eqb}
 use borrow.Author.Tests.{ne-eqb, eqb-true, eqb-false}
-use Rattle.record.specs.Record.{kind, mask, written, byteAt, bytesFrom, littleEndian, bitAbove, find, used, unused, mustBeZero, allZero, stray}
+use Rattle.spelling.specs.Spelling.{spelt}
+use Rattle.record.specs.Record.{kind, mask, written, byteAt, bytesFrom, bitAbove, lastFlag, find, used, unused, mustBeZero, allZero, stray}
+use Rattle.record.specs.Record.{burstKind, pulseKind, tickKind, cWriteKind}
 use Rattle.record.proofs.Numbers.{same-zero}
 
 abbrev pub from : ℕ → ℕ → List ℕ
@@ -44,11 +46,11 @@ pull s (j ∷ is) i js =
     ∙ sym (and-assoc (eqb (byteAt s j) 0) (allZero s (is ++ js)) (eqb (byteAt s i) 0))
 
 -- where all of the flag byte must be zero, its high bits say nothing new
-no-flags : (s is : List ℕ) → (not (allZero s (1 ∷ is)) || bitAbove 4 (byteAt s 1)) ≡ not (allZero s (1 ∷ is))
+no-flags : (s is : List ℕ) → (not (allZero s (1 ∷ is)) || bitAbove lastFlag (byteAt s 1)) ≡ not (allZero s (1 ∷ is))
 unfolding allZero
 no-flags s is = go (eqb (byteAt s 1) 0) refl
   where
-    go : (t : Bool) → eqb (byteAt s 1) 0 ≡ t → (not (t && allZero s is) || bitAbove 4 (byteAt s 1)) ≡ not (t && allZero s is)
+    go : (t : Bool) → eqb (byteAt s 1) 0 ≡ t → (not (t && allZero s is) || bitAbove lastFlag (byteAt s 1)) ≡ not (t && allZero s is)
     go true e = simp (eqb-true (byteAt s 1) 0 e) (or-false (not (allZero s is)))
     go false e = refl
 
@@ -64,40 +66,40 @@ back = from 14 18
 
 abbrev sharedSum : List ℕ → ℕ
 sharedSum s =
-    byteAt s 1 + littleEndian (bytesFrom s 4 3) + littleEndian (bytesFrom s 8 3) + byteAt s 12
+    byteAt s 1 + spelt (bytesFrom s 4 3) + spelt (bytesFrom s 8 3) + byteAt s 12
     + (byteAt s 14 + byteAt s 15
-    + littleEndian (bytesFrom s 16 3)
-    + littleEndian (bytesFrom s 20 3)
-    + littleEndian (bytesFrom s 24 3)
-    + littleEndian (bytesFrom s 28 3))
+    + spelt (bytesFrom s 16 3)
+    + spelt (bytesFrom s 20 3)
+    + spelt (bytesFrom s 24 3)
+    + spelt (bytesFrom s 28 3))
 
 abbrev burstSum : List ℕ → ℕ
 burstSum s = byteAt s 13 + byteAt s 14 + byteAt s 15 + byteAt s 30 + byteAt s 31
 
 module _ (s : List ℕ) where
   pub stray-shared : allZero s (mustBeZero (kind ∷ mask ∷ written ∷ [])) ≡ eqb (sharedSum s) 0
-  unfolding unused used bytesFrom littleEndian total
+  unfolding unused used bytesFrom total
   stray-shared =
       zero-total s (1 ∷ (front ++ back))
       ∙ same-zero (total s (1 ∷ (front ++ back))) (sharedSum s) (λ h. omega arith) (λ h. omega arith)
 
-  pub stray-burst : stray 1 s ≡ (bitAbove 4 (byteAt s 1) || not (eqb (burstSum s) 0))
+  pub stray-burst : stray burstKind s ≡ (bitAbove lastFlag (byteAt s 1) || not (eqb (burstSum s) 0))
   unfolding stray find unused used total
   stray-burst =
       let places : List ℕ = 13 ∷ 14 ∷ 15 ∷ 30 ∷ 31 ∷ [] in
-      or-comm (not (allZero s places)) (bitAbove 4 (byteAt s 1))
-      ∙ ap (λ (t : Bool). bitAbove 4 (byteAt s 1) || not t)
+      or-comm (not (allZero s places)) (bitAbove lastFlag (byteAt s 1))
+      ∙ ap (λ (t : Bool). bitAbove lastFlag (byteAt s 1) || not t)
       (zero-total s places ∙ same-zero (total s places) (burstSum s) (λ h. omega arith) (λ h. omega arith))
 
-  pub stray-pulse : stray 2 s ≡ (not (allZero s (mustBeZero (kind ∷ mask ∷ written ∷ []))) || not (eqb (byteAt s 13) 0))
+  pub stray-pulse : stray pulseKind s ≡ (not (allZero s (mustBeZero (kind ∷ mask ∷ written ∷ []))) || not (eqb (byteAt s 13) 0))
   unfolding stray find unused used
   stray-pulse =
       no-flags s (front ++ (13 ∷ back))
       ∙ ap not (pull s (1 ∷ front) 13 back)
       ∙ not-both (allZero s (1 ∷ (front ++ back))) (eqb (byteAt s 13) 0)
 
-  pub stray-write : stray 4 s ≡ (not (allZero s (mustBeZero (kind ∷ mask ∷ written ∷ []))) || not (eqb (littleEndian (bytesFrom s 2 1)) 0))
-  unfolding stray find unused used bytesFrom littleEndian
+  pub stray-write : stray cWriteKind s ≡ (not (allZero s (mustBeZero (kind ∷ mask ∷ written ∷ []))) || not (eqb (spelt (bytesFrom s 2 1)) 0))
+  unfolding stray find unused used bytesFrom
   stray-write =
       let a = allZero s (1 ∷ (front ++ back)) in
       let low = byteAt s 2 in
@@ -109,9 +111,9 @@ module _ (s : List ℕ) where
       ∙ not-both a (eqb high 0 && eqb low 0)
       ∙ ap (λ (t : Bool). not a || not t)
       (both-zero high low
-      ∙ same-zero (high + low) (littleEndian (bytesFrom s 2 1)) (λ h. omega arith) (λ h. omega arith))
+      ∙ same-zero (high + low) (spelt (bytesFrom s 2 1)) (λ h. omega arith) (λ h. omega arith))
 
-  pub stray-bare : stray 3 s ≡ (stray 4 s || not (eqb (byteAt s 13) 0))
+  pub stray-bare : stray tickKind s ≡ (stray cWriteKind s || not (eqb (byteAt s 13) 0))
   unfolding stray find unused used
   stray-bare =
       let a = allZero s (1 ∷ 2 ∷ 3 ∷ (front ++ back)) in

@@ -2,3 +2,4 @@
 pub mod Record
 pub mod Refusals
 pub mod Accepted
+pub mod Records

@@ -6,8 +6,11 @@ ghost use mathlib.Core.List.{[], _∷_};
 ghost use Prim.Native.Nat.{_+_, _*_, _≤_, _<_};
 ghost use lib.Dec.{ltb};
 ghost use lib.ListN.{length};
-ghost use Rattle.record.specs.Record.{kind, mask, written, byteAt, bytesFrom, littleEndian, bit, burstOf, mustBeZero, allZero, stray};
+ghost use Rattle.spelling.specs.Spelling.{spelt};
+ghost use Rattle.record.specs.Record.{burstKind, pulseKind, tickKind, cWriteKind, dWriteKind};
+ghost use Rattle.record.specs.Record.{recordLength, kind, mask, written, byteAt, bytesFrom, bit, burstOf, mustBeZero, allZero, stray};
 ghost use Rattle.record.specs.Refusals.{badNumbers, nothingActive, selectsNeither, refused, accepted, recordOf};
+use ports::Quiet;
 
 // A burst as the record has it, with its five flags one by one.
 pub struct Burst {
@@ -24,15 +27,19 @@ pub struct Burst {
     pub x: u32,
 }
 
-// What a record asks for, or the number that it is turned away with.
-pub enum Asked {
-    Burst(Burst),
-    Pulse(u16),
-    Tick,
+// The host's accesses: a byte written to C or D, or one asked for.
+pub enum Access {
     WriteC(u8),
     WriteD(u8),
     ReadC,
     ReadD,
+}
+
+// What a record asks for, or the number that it is turned away with.
+pub enum Asked {
+    Burst(Burst),
+    Quiet(Quiet),
+    Access(Access),
     Reset,
     Refused(u8),
 }
@@ -52,27 +59,27 @@ pub fn read_record(bytes: &[u8]) -> Record
         return Record::refused(9);
     }
     match bytes[0] {
-        1 => read_burst(bytes),
-        2 => read_pulse(bytes),
-        3 => read_bare(bytes, Asked::Tick),
-        4 => read_c_write(bytes),
-        5 => read_d_write(bytes),
-        6 => read_bare(bytes, Asked::ReadC),
-        7 => read_bare(bytes, Asked::ReadD),
-        8 => read_bare(bytes, Asked::Reset),
+        Record::BURST => read_burst(bytes),
+        Record::PULSE => read_pulse(bytes),
+        Record::TICK => read_bare(bytes, Asked::Quiet(Quiet::Tick)),
+        Record::C_WRITE => read_c_write(bytes),
+        Record::D_WRITE => read_d_write(bytes),
+        Record::C_READ => read_bare(bytes, Asked::Access(Access::ReadC)),
+        Record::D_READ => read_bare(bytes, Asked::Access(Access::ReadD)),
+        Record::RESET => read_bare(bytes, Asked::Reset),
         _ => Record::refused(8),
     }
 }
 
-// 32 bytes of kind 1.
-fn read_burst(s: &[u8]) -> Record
-    requires { ⌜ (length (now s) ≡ 32) × (byteAt (now s) 0 ≡ 1) ⌝ }
-    ensures { λ r. ⌜ r ≡ recordOf (now (s .entry)) ⌝ }
+// A burst.
+fn read_burst(bytes: &[u8]) -> Record
+    requires { ⌜ (length (now bytes) ≡ recordLength) × (byteAt (now bytes) 0 ≡ burstKind) ⌝ }
+    ensures { λ r. ⌜ r ≡ recordOf (now (bytes .entry)) ⌝ }
 {
-    if stray_burst(s) {
+    if stray_burst(bytes) {
         return Record::refused(8);
     }
-    let burst = Burst::read(s);
+    let burst = Burst::read(bytes);
     if Burst::MASK_END <= burst.mask {
         return Record::refused(3);
     }
@@ -82,66 +89,83 @@ fn read_burst(s: &[u8]) -> Record
     if burst.nothing_active() {
         return Record::refused(1);
     }
-    Record::accepted(Asked::Burst(burst), s)
+    Record::accepted(Asked::Burst(burst), bytes)
 }
 
-// 32 bytes of kind 2.
-fn read_pulse(s: &[u8]) -> Record
-    requires { ⌜ (length (now s) ≡ 32) × (byteAt (now s) 0 ≡ 2) ⌝ }
-    ensures { λ r. ⌜ r ≡ recordOf (now (s .entry)) ⌝ }
+// Link pulses.
+fn read_pulse(bytes: &[u8]) -> Record
+    requires { ⌜ (length (now bytes) ≡ recordLength) × (byteAt (now bytes) 0 ≡ pulseKind) ⌝ }
+    ensures { λ r. ⌜ r ≡ recordOf (now (bytes .entry)) ⌝ }
 {
-    if stray_pulse(s) {
+    if stray_pulse(bytes) {
         return Record::refused(8);
     }
-    let mask = number16(s, 2);
+    let mask = number16(bytes, 2);
     if Record::PULSE_MASK_END <= mask {
         return Record::refused(3);
     }
-    Record::accepted(Asked::Pulse(mask), s)
+    Record::accepted(Asked::Quiet(Quiet::Pulse(mask)), bytes)
 }
 
-// 32 bytes of kind 4.
-fn read_c_write(s: &[u8]) -> Record
-    requires { ⌜ (length (now s) ≡ 32) × (byteAt (now s) 0 ≡ 4) ⌝ }
-    ensures { λ r. ⌜ r ≡ recordOf (now (s .entry)) ⌝ }
+// A C write.
+fn read_c_write(bytes: &[u8]) -> Record
+    requires { ⌜ (length (now bytes) ≡ recordLength) × (byteAt (now bytes) 0 ≡ cWriteKind) ⌝ }
+    ensures { λ r. ⌜ r ≡ recordOf (now (bytes .entry)) ⌝ }
 {
-    if stray_write(s) {
+    if stray_write(bytes) {
         return Record::refused(8);
     }
-    if selects_neither(s[13]) {
+    if selects_neither(bytes[13]) {
         return Record::refused(7);
     }
-    Record::accepted(Asked::WriteC(s[13]), s)
+    Record::accepted(Asked::Access(Access::WriteC(bytes[13])), bytes)
 }
 
-// 32 bytes of kind 5.
-fn read_d_write(s: &[u8]) -> Record
-    requires { ⌜ (length (now s) ≡ 32) × (byteAt (now s) 0 ≡ 5) ⌝ }
-    ensures { λ r. ⌜ r ≡ recordOf (now (s .entry)) ⌝ }
+// A D write.
+fn read_d_write(bytes: &[u8]) -> Record
+    requires { ⌜ (length (now bytes) ≡ recordLength) × (byteAt (now bytes) 0 ≡ dWriteKind) ⌝ }
+    ensures { λ r. ⌜ r ≡ recordOf (now (bytes .entry)) ⌝ }
 {
-    if stray_write(s) {
+    if stray_write(bytes) {
         return Record::refused(8);
     }
-    Record::accepted(Asked::WriteD(s[13]), s)
+    Record::accepted(Asked::Access(Access::WriteD(bytes[13])), bytes)
 }
 
-// 32 bytes of kind 3, 6, 7 or 8: the kind is all that may stand in them.
-fn read_bare(s: &[u8], asked: Asked) -> Record
-    requires { ⌜ length (now s) ≡ 32 ⌝ }
-    ensures { λ r. ⌜ r ≡ cond (stray 3 (now (s .entry))) (refused 8) (accepted asked (now (s .entry))) ⌝ }
+// A kind whose number is all that may stand in the record: a tick, a read or a reset.
+fn read_bare(bytes: &[u8], asked: Asked) -> Record
+    requires { ⌜ length (now bytes) ≡ recordLength ⌝ }
+    ensures { λ r. ⌜ r ≡ cond (stray tickKind (now (bytes .entry))) (refused 8) (accepted asked (now (bytes .entry))) ⌝ }
 {
-    if stray_bare(s) {
+    if stray_bare(bytes) {
         return Record::refused(8);
     }
-    Record::accepted(asked, s)
+    Record::accepted(asked, bytes)
 }
 
 impl Record {
     // How many bytes a record has.
     pub const LENGTH: usize = 32;
 
-    // The least mask with a bit above 7, the last TP port.
-    pub const PULSE_MASK_END: u16 = 256;
+    // The kinds, by the number in byte 0.
+    pub const BURST: u8 = 1;
+
+    pub const PULSE: u8 = 2;
+
+    pub const TICK: u8 = 3;
+
+    pub const C_WRITE: u8 = 4;
+
+    pub const D_WRITE: u8 = 5;
+
+    pub const C_READ: u8 = 6;
+
+    pub const D_READ: u8 = 7;
+
+    pub const RESET: u8 = 8;
+
+    // The least mask with a bit above those of the TP ports.
+    const PULSE_MASK_END: u16 = 1 << ports::AUI;
 
     // Bytes that are turned away with a number.
     fn refused(number: u8) -> Record
@@ -155,46 +179,53 @@ impl Record {
     }
 
     // Bytes that ask for this, with their source address.
-    fn accepted(asked: Asked, s: &[u8]) -> Record
-        requires { ⌜ length (now s) ≡ 32 ⌝ }
-        ensures { λ r. ⌜ r ≡ accepted asked (now (s .entry)) ⌝ }
+    fn accepted(asked: Asked, bytes: &[u8]) -> Record
+        requires { ⌜ length (now bytes) ≡ recordLength ⌝ }
+        ensures { λ r. ⌜ r ≡ accepted asked (now (bytes .entry)) ⌝ }
     {
-        let source = [s[24], s[25], s[26], s[27], s[28], s[29]];
+        let source = [
+            bytes[24],
+            bytes[25],
+            bytes[26],
+            bytes[27],
+            bytes[28],
+            bytes[29],
+        ];
         Record { asked, source }
     }
 }
 
 impl Burst {
-    // The least mask with a bit above 8, the AUI port.
-    pub const MASK_END: u16 = 512;
+    // The least mask with a bit above that of AUI.
+    const MASK_END: u16 = 1 << ports::COUNT;
 
     // The longest duration.
-    pub const LONGEST: u32 = 1_000_000;
+    const LONGEST: u32 = 1_000_000;
 
     // The most dribble bits.
-    pub const MOST_DRIBBLE: u8 = 7;
+    const MOST_DRIBBLE: u8 = 7;
 
-    // The least flag byte with a bit above 4.
-    pub const FLAGS_END: u8 = 32;
+    // The least flag byte with a bit above that of the last flag.
+    const FLAGS_END: u8 = 32;
 
     // The fields of a burst, whatever they hold.
-    fn read(s: &[u8]) -> Burst
-        requires { ⌜ length (now s) ≡ 32 ⌝ }
-        ensures { λ r. ⌜ r ≡ burstOf (now (s .entry)) ⌝ }
+    fn read(bytes: &[u8]) -> Burst
+        requires { ⌜ length (now bytes) ≡ recordLength ⌝ }
+        ensures { λ r. ⌜ r ≡ burstOf (now (bytes .entry)) ⌝ }
     {
-        let flags = s[1];
+        let flags = bytes[1];
         Burst {
-            mask: number16(s, 2),
+            mask: number16(bytes, 2),
             fcs_bad: flag(flags, 0),
             rate_error: flag(flags, 1),
             collision_signal: flag(flags, 2),
             loopback_missing: flag(flags, 3),
             sqe_test: flag(flags, 4),
-            d: number32(s, 4),
-            n: number32(s, 8),
-            k: s[12],
-            c: number32(s, 16),
-            x: number32(s, 20),
+            d: number32(bytes, 4),
+            n: number32(bytes, 8),
+            k: bytes[12],
+            c: number32(bytes, 16),
+            x: number32(bytes, 20),
         }
     }
 
@@ -243,10 +274,10 @@ fn collision_past(d: u32, c: u32, x: u32) -> bool
 }
 
 // Row 7: a byte written to C that selects neither P nor R.
-pub fn selects_neither(w: u8) -> bool
-    ensures { λ r. ⌜ r ≡ selectsNeither w ⌝ }
+pub fn selects_neither(byte: u8) -> bool
+    ensures { λ r. ⌜ r ≡ selectsNeither byte ⌝ }
 {
-    let top = w >> 5;
+    let top = byte >> 5;
     if top == 0b000 {
         return false;
     }
@@ -254,82 +285,87 @@ pub fn selects_neither(w: u8) -> bool
 }
 
 // Row 8 for a burst: flag bits 5 to 7, or byte 13, 14, 15, 30 or 31, is not zero.
-fn stray_burst(s: &[u8]) -> bool
-    requires { ⌜ length (now s) ≡ 32 ⌝ }
-    ensures { λ r. ⌜ r ≡ stray 1 (now (s .entry)) ⌝ }
+fn stray_burst(bytes: &[u8]) -> bool
+    requires { ⌜ length (now bytes) ≡ recordLength ⌝ }
+    ensures { λ r. ⌜ r ≡ stray burstKind (now (bytes .entry)) ⌝ }
 {
-    if Burst::FLAGS_END <= s[1] {
+    if Burst::FLAGS_END <= bytes[1] {
         return true;
     }
-    byte(s[13]) + byte(s[14]) + byte(s[15]) + byte(s[30]) + byte(s[31]) != 0
+    byte(bytes[13]) + byte(bytes[14]) + byte(bytes[15]) + byte(bytes[30]) + byte(bytes[31]) != 0
 }
 
 // Row 8 for a link pulse.
-fn stray_pulse(s: &[u8]) -> bool
-    requires { ⌜ length (now s) ≡ 32 ⌝ }
-    ensures { λ r. ⌜ r ≡ stray 2 (now (s .entry)) ⌝ }
+fn stray_pulse(bytes: &[u8]) -> bool
+    requires { ⌜ length (now bytes) ≡ recordLength ⌝ }
+    ensures { λ r. ⌜ r ≡ stray pulseKind (now (bytes .entry)) ⌝ }
 {
-    if stray_shared(s) {
+    if stray_shared(bytes) {
         return true;
     }
-    s[13] != 0
+    bytes[13] != 0
 }
 
 // Row 8 for a C or D write.
-fn stray_write(s: &[u8]) -> bool
-    requires { ⌜ length (now s) ≡ 32 ⌝ }
-    ensures { λ r. ⌜ r ≡ stray 4 (now (s .entry)) ⌝ }
+fn stray_write(bytes: &[u8]) -> bool
+    requires { ⌜ length (now bytes) ≡ recordLength ⌝ }
+    ensures { λ r. ⌜ r ≡ stray cWriteKind (now (bytes .entry)) ⌝ }
 {
-    if stray_shared(s) {
+    if stray_shared(bytes) {
         return true;
     }
-    number16(s, 2) != 0
+    number16(bytes, 2) != 0
 }
 
 // Row 8 for a kind that uses nothing more.
-fn stray_bare(s: &[u8]) -> bool
-    requires { ⌜ length (now s) ≡ 32 ⌝ }
-    ensures { λ r. ⌜ r ≡ stray 3 (now (s .entry)) ⌝ }
+fn stray_bare(bytes: &[u8]) -> bool
+    requires { ⌜ length (now bytes) ≡ recordLength ⌝ }
+    ensures { λ r. ⌜ r ≡ stray tickKind (now (bytes .entry)) ⌝ }
 {
-    if stray_write(s) {
+    if stray_write(bytes) {
         return true;
     }
-    s[13] != 0
+    bytes[13] != 0
 }
 
 // Whether one of the bytes that must be zero in every kind but a burst is not: 1, 4 to 12, 14 to 31. A sum of them is zero
 // exactly if each is.
-fn stray_shared(s: &[u8]) -> bool
-    requires { ⌜ length (now s) ≡ 32 ⌝ }
-    ensures { λ r. ⌜ r ≡ not (allZero (now (s .entry)) (mustBeZero (kind ∷ mask ∷ written ∷ []))) ⌝ }
+fn stray_shared(bytes: &[u8]) -> bool
+    requires { ⌜ length (now bytes) ≡ recordLength ⌝ }
+    ensures { λ r. ⌜ r ≡ not (allZero (now (bytes .entry)) (mustBeZero (kind ∷ mask ∷ written ∷ []))) ⌝ }
 {
-    let front = byte(s[1]) + word(s, 4) + word(s, 8) + byte(s[12]);
-    let back = byte(s[14]) + byte(s[15]) + word(s, 16) + word(s, 20) + word(s, 24) + word(s, 28);
+    let front = byte(bytes[1]) + word(bytes, 4) + word(bytes, 8) + byte(bytes[12]);
+    let back = byte(bytes[14])
+        + byte(bytes[15])
+        + word(bytes, 16)
+        + word(bytes, 20)
+        + word(bytes, 24)
+        + word(bytes, 28);
     front + back != 0
 }
 
-// The number in two bytes, least significant first.
-fn number16(s: &[u8], i: usize) -> u16
-    requires { ⌜ i + 2 ≤ length (now s) ⌝ }
-    ensures { λ r. ⌜ r ≡ littleEndian (bytesFrom (now (s .entry)) i 1) ⌝ }
+// The number that two bytes spell.
+fn number16(bytes: &[u8], i: usize) -> u16
+    requires { ⌜ i + 2 ≤ length (now bytes) ⌝ }
+    ensures { λ r. ⌜ r ≡ spelt (bytesFrom (now (bytes .entry)) i 1) ⌝ }
 {
-    wide16(s[i]) + 256 * wide16(s[i + 1])
+    spelling::two(bytes[i], bytes[i + 1])
 }
 
-// The number in four bytes, least significant first.
-fn number32(s: &[u8], i: usize) -> u32
-    requires { ⌜ i + 4 ≤ length (now s) ⌝ }
-    ensures { λ r. ⌜ r ≡ littleEndian (bytesFrom (now (s .entry)) i 3) ⌝ }
+// The number that four bytes spell.
+fn number32(bytes: &[u8], i: usize) -> u32
+    requires { ⌜ i + 4 ≤ length (now bytes) ⌝ }
+    ensures { λ r. ⌜ r ≡ spelt (bytesFrom (now (bytes .entry)) i 3) ⌝ }
 {
-    wide32(s[i]) + 256 * (wide32(s[i + 1]) + 256 * (wide32(s[i + 2]) + 256 * wide32(s[i + 3])))
+    spelling::four(bytes[i], bytes[i + 1], bytes[i + 2], bytes[i + 3])
 }
 
 // The same, with room for a sum of many.
-fn word(s: &[u8], i: usize) -> u64
-    requires { ⌜ i + 4 ≤ length (now s) ⌝ }
-    ensures { λ r. ⌜ (r ≡ littleEndian (bytesFrom (now (s .entry)) i 3)) × (r < 4294967296) ⌝ }
+fn word(bytes: &[u8], i: usize) -> u64
+    requires { ⌜ i + 4 ≤ length (now bytes) ⌝ }
+    ensures { λ r. ⌜ (r ≡ spelt (bytesFrom (now (bytes .entry)) i 3)) × (r < 4294967296) ⌝ }
 {
-    long(number32(s, i))
+    long(number32(bytes, i))
 }
 
 // One bit of the flags.
@@ -341,18 +377,6 @@ fn flag(flags: u8, place: u8) -> bool
 }
 
 // The casts, each with the bound that a sum asks for.
-fn wide16(b: u8) -> u16
-    ensures { λ r. ⌜ (r ≡ b) × (r < 256) ⌝ }
-{
-    b as u16
-}
-
-fn wide32(b: u8) -> u32
-    ensures { λ r. ⌜ (r ≡ b) × (r < 256) ⌝ }
-{
-    b as u32
-}
-
 fn byte(b: u8) -> u64
     ensures { λ r. ⌜ (r ≡ b) × (r < 256) ⌝ }
 {

@@ -3,140 +3,146 @@
 --   fair                 == what a burst is to a port is fair: it does not collide where it is clean, and reconnects only where it is clean
 --   followed-moves, burst-moves == a burst moves the port at place i as its event there says
 --   set-moves            == so does a Set
---   tick-moves, pulse-moves, get-moves == these leave the standing alone: to every port they are `neither`
+--   quiet-moves, get-moves == link pulses, ticks and Gets leave the standing alone: to every port they are `neither`
 --   up-connected, reset-moves == at power-up, and after a reset, every port is connected with count 0: a reset is `cleared`
 --   input-moves          == one law for whatever happens to the repeater
 --   partitioned-by-past  == demand 3 for the repeater by itself: after any list of inputs from power-up, at every place
-use Prim.Native.Nat.{ℕ, zero, suc, _≤_, _<_}
+use Prim.Native.Nat.{ℕ, _≤_, _<_}
 use mathlib.Core.Path.{_≡_, refl, ap, _∙_}
 use mathlib.Core.Bool.{Bool, true, false, cond, _&&_, and-false}
-use mathlib.Core.List.{List, [], _∷_}
-use native.Mathlib.Omega.{arith}
-use borrow.Author.Tests.{ne-eqb, leb-true, leb-false}
-use lib.Dec.{eqb, ltb, leb, eqb·suc-suc}
-use lib.ListN.{length, getD, set, replicate, List·getD-eq-default}
-use Rattle.ports.specs.Sets.{aui, has}
+use mathlib.Core.List.{List}
+use borrow.Author.Tests.{eqb-true, ltb-false, leb-true, leb-false}
+use lib.Dec.{eqb, ltb, leb}
+use Rattle.ports.specs.declared.Quiet.{Quiet}
+use Rattle.ports.specs.Sets.{aui, has, setOf}
 use Rattle.history.specs.Exactly.{Exactly}
+use Rattle.history.specs.History.{neither, cleared, connected, partitioned, afterEvent, since, Struck}
+use Rattle.history.proofs.Past.{Keeps, told-exactly}
 use Rattle.ports.proofs.Sets.{set-false, and-first}
-use Rattle.ports.proofs.Each.{each-at, set-keeps}
-use Rattle.port.specs.declared.Port.{Port}
-use Rattle.port.specs.declared.Change.{Change}
-use Rattle.port.specs.declared.Change.the-variants.{Disabling, EnablingTp, EnablingAui, StoppingTest, StartingTest}
-use Rattle.burst.specs.declared.Burst.{Burst}
-use Rattle.burst.specs.declared.Hearing.{Hearing}
-use Rattle.burst.specs.declared.Effect.{Effect}
 use Rattle.management.specs.declared.Setting.{Setting}
 use Rattle.management.specs.declared.Setting.the-variants.{AlternateAui, AlternateTp, DisableAui, EnableAui, DisableTp, EnableTp, LinkTestOff, LinkTestOn}
 use Rattle.management.specs.declared.Query.{Query}
-use Rattle.port.specs.Port.{noPort}
-use Rattle.port.specs.Reset.{tpUp, auiUp}
-use Rattle.burst.specs.Burst.{effectOf}
-use Rattle.burst.specs.Clean.{cleanAt, reconnectingAt}
+use Rattle.management.specs.Status.{marked, clearedBy}
+use Rattle.port.specs.declared.Port.{Port}
+use Rattle.port.specs.declared.Meeting.{Meeting}
+use Rattle.port.specs.declared.Change.{Change}
+use Rattle.port.specs.declared.Change.the-variants.{Disabling, EnablingTp, EnablingAui, StoppingTest, StartingTest}
 use Rattle.port.specs.Settings.{changed}
-use Rattle.history.specs.History.{neither, cleared, connected, partitioned, afterEvent, since, Struck}
 use Rattle.port.specs.Standing.{standingOf, eventOf}
-use Rattle.history.proofs.Past.{Keeps, told-exactly}
 use Rattle.port.proofs.Kept.{revived-at-keeps}
 use Rattle.port.proofs.Standing.{Fair, tied, stays, clears, linkless, disabling-moves, quiet, quiet-keeps}
+use Rattle.burst.specs.declared.Activity.{Activity}
+use Rattle.burst.specs.declared.Bus.{Bus}
+use Rattle.burst.specs.declared.Hearing.{Hearing}
+use Rattle.burst.specs.declared.Effect.{Effect}
+use Rattle.burst.specs.Burst.{effectOf}
+use Rattle.burst.specs.Clean.{cleanAt, reconnectingAt}
+use Rattle.burst.specs.Marks.{marksOf}
 use Rattle.repeater.specs.declared.Repeater.{Repeater}
 use Rattle.repeater.specs.declared.Those.the-variants.{Transmitting}
+use Rattle.repeater.specs.Door.{placesOf, portAt, eachPort}
 use Rattle.repeater.specs.Reset.{powerUp}
 use Rattle.repeater.specs.Hearing.{inT, hearingOf, meetingOf}
-use Rattle.repeater.specs.Repeater.{tickedAll, pulsedAll, alternateFor, partitionedAt, portAfter, followed, burstOf, changedAt, changedTp, setTo, gotOf, among}
-use Rattle.repeater.specs.Events.{standingAt, followedEvent, burstEvent, disables, setEvent, Input, burst, pulse, tick, setting, query, reset, afterInput, inputEvent, afterInputs, inputEvents}
-use Rattle.repeater.proofs.RepeaterLaws.{past-among}
-use Rattle.repeater.proofs.Kept.{ticks-keep, pulses-keep, ports-bursted}
+use Rattle.repeater.specs.Repeater.{quieted, alternateFor, partitionedAt, portAfter, followed, burstOf, changedAt, changedTp, setTo, gotOf, among}
+use Rattle.repeater.specs.Events as event
+use Rattle.repeater.specs.Events.{standingAt, followedEvent, burstEvent, disables, setEvent, Input, burst, setting, query, reset}
+use Rattle.repeater.specs.Events.{afterInput, inputEvent, afterInputs, inputEvents}
+use Rattle.repeater.proofs.DoorLaws.{port-past, port-each, port-put, put-keeps, port-status, port-alternate, up-keeps, past-among}
+use Rattle.repeater.proofs.Kept as kept
+use Rattle.repeater.proofs.Kept.{places-bursted}
 
 -- WHAT A BURST IS TO A PORT
 
-collided-unclean : (g : Hearing) (f : Effect) (i : ℕ) → has (f .collided) i ≡ true → cleanAt g f i ≡ false
+collided-unclean : (hearing : Hearing) (effect : Effect) (i : ℕ) → has (effect .collided) i ≡ true → cleanAt hearing effect i ≡ false
 unfolding cleanAt
-collided-unclean g f i h = simp (h, and-false)
+collided-unclean hearing effect i h = simp (h, and-false)
 
-module _ (g : Hearing) (f : Effect) (b : Burst) (alternate : Bool) (i : ℕ) where
-  reconnecting-clean : reconnectingAt g f b alternate i ≡ true → cleanAt g f i ≡ true
+module _ (hearing : Hearing) (effect : Effect) (activity : Activity) (alternate : Bool) (i : ℕ) where
+  abbrev cleanSet : ℕ
+  cleanSet = setOf (cleanAt hearing effect)
+
+  reconnecting-clean : reconnectingAt effect activity cleanSet alternate i ≡ true → has cleanSet i ≡ true
   unfolding reconnectingAt
   reconnecting-clean h = and-first _ _ (and-first _ _ h)
 
-  pub fair : Fair (meetingOf g f b alternate i)
+  pub fair : Fair (meetingOf effect activity cleanSet alternate i)
   unfolding meetingOf
-  fair = record { apart = λ h. collided-unclean g f i h; long = λ h. reconnecting-clean h }
+  fair = record { apart = λ h. set-false (cleanAt hearing effect) i (collided-unclean hearing effect i h); long = λ h. reconnecting-clean h }
 
 -- BURSTS
 
-stepped : (g : Hearing) (f : Effect) (b : Burst) (alternate : Bool) (i : ℕ) (p : Port) (a : Bool) → has (g .t) i ≡ a
-    → standingOf (partitionedAt g f b alternate i p) ≡ afterEvent (standingOf p) (cond (has (g .t) i) (eventOf (meetingOf g f b alternate i)) neither)
+stepped : (t : ℕ) (m : Meeting) (i : ℕ) (p : Port) → Fair m → (a : Bool) → has t i ≡ a
+    → standingOf (partitionedAt t m i p) ≡ afterEvent (standingOf p) (cond (has t i) (eventOf m) neither)
 unfolding partitionedAt
-stepped g f b alternate i p true h = rw h (tied (meetingOf g f b alternate i) p (fair g f b alternate i))
-stepped g f b alternate i p false h = rw h (stays (standingOf p))
+stepped t m i p f true h = rw h (tied m p f)
+stepped t m i p f false h = rw h (stays (standingOf p))
 
-module _ (r : Repeater) (g : Hearing) (b : Burst) where
+module _ (r : Repeater) (bus : Bus) (hearing : Hearing) (activity : Activity) where
   -- a hearing from elsewhere may have places in T that are no ports
-  pub followed-moves : (i : ℕ) → i < length (r .ports) → standingAt (followed r g b .repeater) i ≡ afterEvent (standingAt r i) (followedEvent r g b i)
+  pub followed-moves : (i : ℕ) → i < placesOf r
+      → standingAt (followed r bus hearing activity .repeater) i ≡ afterEvent (standingAt r i) (followedEvent r bus hearing activity i)
   unfolding followed portAfter followedEvent
   followed-moves i h =
-      let f = effectOf g b in
-      let a = alternateFor (r .«alternate_aui») (r .«alternate_tp») i in
-      let p = getD (r .ports) i noPort in
-      ap standingOf (each-at (portAfter (r .«alternate_aui») (r .«alternate_tp») g f b) (r .ports) i noPort noPort h)
-      ∙ revived-at-keeps standingOf linkless (b .mask) i (partitionedAt g f b a i p)
-      ∙ stepped g f b a i p (has (g .t) i) refl
+      let effect = effectOf bus hearing activity in
+      let clean = setOf (cleanAt hearing effect) in
+      let alternate = alternateFor (r .«alternate_aui») (r .«alternate_tp») i in
+      let after = portAfter (r .«alternate_aui») (r .«alternate_tp») hearing effect activity clean in
+      let m = meetingOf effect activity clean alternate i in
+      let p = portAt r i in
+      ap standingOf (port-status (eachPort after r) (marked (r .status) (marksOf effect activity)) i ∙ port-each r after i h)
+      ∙ revived-at-keeps standingOf linkless (activity .mask) i (partitionedAt (hearing .t) m i p)
+      ∙ stepped (hearing .t) m i p (fair hearing effect activity alternate i) (has (hearing .t) i) refl
 
-module _ (r : Repeater) (b : Burst) (i : ℕ) where
-  past-event : length (r .ports) ≤ i → burstEvent r b i ≡ neither
+module _ (r : Repeater) (activity : Activity) (i : ℕ) where
+  past-event : placesOf r ≤ i → burstEvent r activity i ≡ neither
   unfolding burstEvent followedEvent hearingOf among
-  past-event h = rw (set-false (inT (r .ports)) i (past-among Transmitting (r .ports) i h))
+  past-event h = rw (set-false (inT r) i (past-among Transmitting r i h))
 
-  past-moves : length (r .ports) ≤ i → standingAt (burstOf r b .repeater) i ≡ afterEvent (standingAt r i) (burstEvent r b i)
+  past-moves : placesOf r ≤ i → standingAt (burstOf r activity .repeater) i ≡ afterEvent (standingAt r i) (burstEvent r activity i)
   past-moves h =
-      let k : length (burstOf r b .repeater .ports) ≤ i = rw (ports-bursted r b) h in
-      rw (List·getD-eq-default (burstOf r b .repeater .ports) noPort k, List·getD-eq-default (r .ports) noPort h, past-event h)
+      let k : placesOf (burstOf r activity .repeater) ≤ i = rw (places-bursted r activity) h in
+      rw (port-past (burstOf r activity .repeater) i k, port-past r i h, past-event h)
 
-  pub burst-moves : standingAt (burstOf r b .repeater) i ≡ afterEvent (standingAt r i) (burstEvent r b i)
+  pub burst-moves : standingAt (burstOf r activity .repeater) i ≡ afterEvent (standingAt r i) (burstEvent r activity i)
   unfolding burstOf burstEvent
-  burst-moves = go (leb (length (r .ports)) i) refl
+  burst-moves = go (leb (placesOf r) i) refl
     where
-      go : (a : Bool) → leb (length (r .ports)) i ≡ a → standingAt (burstOf r b .repeater) i ≡ afterEvent (standingAt r i) (burstEvent r b i)
-      go true h = past-moves (leb-true (length (r .ports)) i h)
-      go false h = followed-moves r (hearingOf (r .ports) b) b i (leb-false (length (r .ports)) i h)
+      go : (a : Bool) → leb (placesOf r) i ≡ a → standingAt (burstOf r activity .repeater) i ≡ afterEvent (standingAt r i) (burstEvent r activity i)
+      go true h = past-moves (leb-true (placesOf r) i h)
+      go false h = followed-moves r Bus.Nothing (hearingOf r activity) activity i (leb-false (placesOf r) i h)
 
--- TICKS, LINK PULSES, GETS, RESETS
+-- LINK PULSES, TICKS, GETS, RESETS
 
-pub tick-moves : (r : Repeater) (i : ℕ) → standingAt (tickedAll r) i ≡ afterEvent (standingAt r i) neither
-tick-moves r i = ticks-keep standingOf linkless r i ∙ stays (standingAt r i)
-
-pub pulse-moves : (r : Repeater) (m i : ℕ) → standingAt (pulsedAll r m) i ≡ afterEvent (standingAt r i) neither
-pulse-moves r m i = pulses-keep standingOf linkless r m i ∙ stays (standingAt r i)
+pub quiet-moves : (q : Quiet) (r : Repeater) (i : ℕ) → standingAt (quieted q r) i ≡ afterEvent (standingAt r i) neither
+quiet-moves q r i = kept.quiet-keeps standingOf linkless q r i ∙ stays (standingAt r i)
 
 pub get-moves : (q : Query) (r : Repeater) (i : ℕ) → standingAt (gotOf q r .repeater) i ≡ afterEvent (standingAt r i) neither
 unfolding gotOf
-get-moves q r i = stays (standingAt r i)
-
-connected-tp : (n i : ℕ) → standingOf (getD (replicate n tpUp) i noPort) ≡ connected 0
-connected-tp zero i = refl
-connected-tp (suc n) zero = refl
-connected-tp (suc n) (suc i) = connected-tp n i
+get-moves q r i = ap standingOf (port-status r (clearedBy q (r .status)) i) ∙ stays (standingAt r i)
 
 pub up-connected : (i : ℕ) → standingAt powerUp i ≡ connected 0
-up-connected i = set-keeps standingOf (replicate 9 tpUp) aui i auiUp noPort refl ∙ connected-tp 9 i
+up-connected i = up-keeps standingOf (connected 0) refl refl refl i
 
 pub reset-moves : (r : Repeater) (i : ℕ) → standingAt powerUp i ≡ afterEvent (standingAt r i) cleared
 reset-moves r i = up-connected i ∙ clears (standingAt r i)
 
 -- SETS
 
-set-disables : (ps : List Port) (k i : ℕ)
-    → standingOf (getD (set ps k (changed Disabling (getD ps k noPort))) i noPort) ≡ afterEvent (standingOf (getD ps i noPort)) (cond (eqb i k && getD ps i noPort .enabled) cleared neither)
-set-disables [] k i = rw (and-false (eqb i k))
-set-disables (p ∷ ps) zero zero = disabling-moves p (p .enabled) refl
-set-disables (p ∷ ps) zero (suc i) = rw (ne-eqb (suc i) 0 (λ e. omega arith)) (stays (standingOf (getD ps i noPort)))
-set-disables (p ∷ ps) (suc k) zero = rw (ne-eqb 0 (suc k) (λ e. omega arith)) (stays (standingOf p))
-set-disables (p ∷ ps) (suc k) (suc i) = rw (eqb·suc-suc i k) (set-disables ps k i)
+disabling-at : (k : ℕ) (r : Repeater) (i : ℕ)
+    → standingAt (changedAt Disabling k r) i ≡ afterEvent (standingAt r i) (cond (eqb i k && portAt r i .enabled) cleared neither)
+unfolding changedAt
+disabling-at k r i = ap standingOf (port-put r k (changed Disabling (portAt r k)) i) ∙ go (eqb i k) (ltb k (placesOf r)) refl refl
+  where
+    go : (a b : Bool) → eqb i k ≡ a → ltb k (placesOf r) ≡ b
+        → standingOf (cond (a && b) (changed Disabling (portAt r k)) (portAt r i))
+        ≡ afterEvent (standingAt r i) (cond (a && portAt r i .enabled) cleared neither)
+    go true true e l = rw (eqb-true i k e) (disabling-moves (portAt r k) (portAt r k .enabled) refl)
+    go true false e l = rw (port-past r i (rw (eqb-true i k e) (ltb-false k (placesOf r) l)))
+    go false b e l = stays (standingAt r i)
 
 quiet-at : (how : Change) (k : ℕ) (r : Repeater) (i : ℕ) → quiet how ≡ true → standingAt (changedAt how k r) i ≡ afterEvent (standingAt r i) neither
 unfolding changedAt
-quiet-at how k r i h =
-    set-keeps standingOf (r .ports) k i (changed how (getD (r .ports) k noPort)) noPort (quiet-keeps how (getD (r .ports) k noPort) h) ∙ stays (standingAt r i)
+quiet-at how k r i h = put-keeps standingOf r k (changed how (portAt r k)) (quiet-keeps how (portAt r k) h) i ∙ stays (standingAt r i)
 
 quiet-tp : (how : Change) (k : ℕ) (r : Repeater) (i : ℕ) → quiet how ≡ true → standingAt (changedTp how k r) i ≡ afterEvent (standingAt r i) neither
 unfolding changedTp
@@ -146,24 +152,20 @@ quiet-tp how k r i h = go (ltb k aui)
     go true = quiet-at how k r i h
     go false = stays (standingAt r i)
 
-disabling-at : (k : ℕ) (r : Repeater) (i : ℕ)
-    → standingAt (changedAt Disabling k r) i ≡ afterEvent (standingAt r i) (cond (eqb i k && getD (r .ports) i noPort .enabled) cleared neither)
-unfolding changedAt
-disabling-at k r i = set-disables (r .ports) k i
-
 disabling-tp : (k : ℕ) (r : Repeater) (i : ℕ)
-    → standingAt (changedTp Disabling k r) i ≡ afterEvent (standingAt r i) (cond (ltb k aui && eqb i k && getD (r .ports) i noPort .enabled) cleared neither)
+    → standingAt (changedTp Disabling k r) i ≡ afterEvent (standingAt r i) (cond (ltb k aui && eqb i k && portAt r i .enabled) cleared neither)
 unfolding changedTp
 disabling-tp k r i = go (ltb k aui)
   where
-    go : (a : Bool) → standingAt (cond a (changedAt Disabling k r) r) i ≡ afterEvent (standingAt r i) (cond (a && eqb i k && getD (r .ports) i noPort .enabled) cleared neither)
+    go : (a : Bool)
+        → standingAt (cond a (changedAt Disabling k r) r) i ≡ afterEvent (standingAt r i) (cond (a && eqb i k && portAt r i .enabled) cleared neither)
     go true = disabling-at k r i
     go false = stays (standingAt r i)
 
 pub set-moves : (s : Setting) (r : Repeater) (i : ℕ) → standingAt (setTo s r) i ≡ afterEvent (standingAt r i) (setEvent s r i)
 unfolding setTo setEvent disables
-set-moves AlternateAui r i = stays (standingAt r i)
-set-moves AlternateTp r i = stays (standingAt r i)
+set-moves AlternateAui r i = ap standingOf (port-alternate r true (r .«alternate_tp») i) ∙ stays (standingAt r i)
+set-moves AlternateTp r i = ap standingOf (port-alternate r (r .«alternate_aui») true i) ∙ stays (standingAt r i)
 set-moves DisableAui r i = disabling-at aui r i
 set-moves EnableAui r i = quiet-at EnablingAui aui r i refl
 set-moves (DisableTp k) r i = disabling-tp k r i
@@ -174,9 +176,8 @@ set-moves (LinkTestOn k) r i = quiet-tp StartingTest k r i refl
 -- THE REPEATER BY ITSELF
 
 pub input-moves : (i : ℕ) (r : Repeater) (a : Input) → standingAt (afterInput r a) i ≡ afterEvent (standingAt r i) (inputEvent i r a)
-input-moves i r (burst b) = burst-moves r b i
-input-moves i r (pulse m) = pulse-moves r m i
-input-moves i r tick = tick-moves r i
+input-moves i r (burst activity) = burst-moves r activity i
+input-moves i r (event.quiet q) = quiet-moves q r i
 input-moves i r (setting s) = set-moves s r i
 input-moves i r (query q) = get-moves q r i
 input-moves i r reset = reset-moves r i
@@ -191,6 +192,8 @@ keeps i = record {
   moves = λ r a h. input-moves i r a;
 }
 
-pub partitioned-by-past : (i : ℕ) (inputs : List Input) → Exactly (standingAt (afterInputs powerUp inputs) i ≡ partitioned) (Struck (since (inputEvents i powerUp inputs)))
+pub partitioned-by-past : (i : ℕ) (inputs : List Input)
+    → Exactly (standingAt (afterInputs powerUp inputs) i ≡ partitioned) (Struck (since (inputEvents i powerUp inputs)))
 partitioned-by-past i inputs =
-    told-exactly (λ (r : Repeater). Unit) (λ r. standingAt r i) afterInput (inputEvent i) afterInputs (inputEvents i) (keeps i) powerUp inputs tt (up-connected i)
+    told-exactly (λ (r : Repeater). Unit) (λ r. standingAt r i) afterInput (inputEvent i) afterInputs (inputEvents i) (keeps i)
+    powerUp inputs tt (up-connected i)

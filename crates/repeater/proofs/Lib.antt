@@ -1,5 +1,6 @@
 -- Laws of the definitions, and theorems that belong to no one function.
 pub mod Computing
+pub mod DoorLaws
 pub mod MeetingLaws
 pub mod RepeaterLaws
 pub mod Kept

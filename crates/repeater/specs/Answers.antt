@@ -1,23 +1,22 @@
 -- Document 01, 'Commands': what a Get answers.
 --   connectedAt, passingAt == a port's bit in the answers that report every TP port
 --   auiByte r      == PBSL0000
---   answerOf q r   == the byte that a Get gives
+--   answerOf query r   == the byte that a Get gives
 -- Assumes nothing.
 use Prim.Native.Nat.{ℕ, _+_, _*_}
 use mathlib.Core.Bool.{Bool, cond, not}
-use lib.ListN.{getD}
 use Rattle.ports.specs.Sets.{aui, gather}
 use Rattle.management.specs.declared.Query.{Query}
-use Rattle.management.specs.declared.Query.the-variants.{Aui, AuiClearB, AuiClearSl, AuiClearBsl, Partition, Rates, Link, Jabber, Version}
-use Rattle.port.specs.Port.{noPort}
+use Rattle.management.specs.declared.Query.the-variants.{Aui, AuiClearB, AuiClearSl, AuiClearBsl, Partition, Rates, Link, Mjlp, Version}
 use Rattle.repeater.specs.declared.Repeater.{Repeater}
+use Rattle.repeater.specs.Door.{portAt}
 
 -- a port's bit in a Get's answer, at place i
 abbrev pub connectedAt : Repeater → ℕ → Bool
-connectedAt r i = not (getD (r .ports) i noPort .partitioned)
+connectedAt r i = not (portAt r i .partitioned)
 
 abbrev pub passingAt : Repeater → ℕ → Bool
-passingAt r i = getD (r .ports) i noPort .«link_pass»
+passingAt r i = portAt r i .«link_pass»
 
 abbrev pub bit : Bool → ℕ
 bit b = cond b 1 0
@@ -35,5 +34,5 @@ answerOf AuiClearBsl r = auiByte r
 answerOf Partition r = gather 8 (connectedAt r)
 answerOf Rates r = r .status .rates
 answerOf Link r = gather 8 (passingAt r)
-answerOf Jabber r = 128 * bit (r .status .jabber)
+answerOf Mjlp r = 128 * bit (r .status .mjlp)
 answerOf Version r = 1

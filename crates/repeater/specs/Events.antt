@@ -1,5 +1,6 @@
--- Document 01, 'Partition' and 'Reset and power-up': what a burst or a Set is to one port of the repeater, as an event of its history, and where the port stands.
--- proofs/Events.antt proves that the repeater moves each port as the events say. The layer above turns its records into inputs of the repeater, or into none.
+-- Document 01, 'Partition' and 'Reset and power-up': what a burst or a Set is to one port of the repeater, as an event of its history, and where the
+-- port stands. proofs/Events.antt proves that the repeater moves each port as the events say. The layer above turns its records into inputs of the
+-- repeater, or into none.
 --   standingAt r i     == how the port at place i stands
 --   followedEvent, burstEvent == the event that a burst is to port i, of T or not: for a given hearing, and for the repeater's own
 --   disables s i       == the Set s is the disabling of port i
@@ -11,31 +12,36 @@ use Prim.Native.Nat.{ℕ}
 use mathlib.Core.Bool.{Bool, false, cond, _&&_}
 use mathlib.Core.List.{List, [], _∷_}
 use lib.Dec.{eqb, ltb}
-use lib.ListN.{getD}
-use Rattle.ports.specs.Sets.{aui, has}
-use Rattle.burst.specs.declared.Burst.{Burst}
-use Rattle.burst.specs.declared.Hearing.{Hearing}
+use Rattle.ports.specs.declared.Quiet.{Quiet}
+use Rattle.ports.specs.Sets.{aui, has, setOf}
 use Rattle.management.specs.declared.Setting.{Setting}
 use Rattle.management.specs.declared.Setting.the-variants.{AlternateAui, AlternateTp, DisableAui, EnableAui, DisableTp, EnableTp, LinkTestOff, LinkTestOn}
 use Rattle.management.specs.declared.Query.{Query}
-use Rattle.port.specs.Port.{noPort}
-use Rattle.burst.specs.Burst.{effectOf}
 use Rattle.history.specs.History.{Event, neither, cleared, Standing}
 use Rattle.port.specs.Standing.{standingOf, eventOf}
+use Rattle.burst.specs.declared.Activity.{Activity}
+use Rattle.burst.specs.declared.Bus.{Bus}
+use Rattle.burst.specs.declared.Hearing.{Hearing}
+use Rattle.burst.specs.declared.Effect.{Effect}
+use Rattle.burst.specs.Burst.{effectOf}
+use Rattle.burst.specs.Clean.{cleanAt}
 use Rattle.repeater.specs.declared.Repeater.{Repeater}
+use Rattle.repeater.specs.Door.{portAt}
 use Rattle.repeater.specs.Reset.{powerUp}
 use Rattle.repeater.specs.Hearing.{hearingOf, meetingOf}
-use Rattle.repeater.specs.Repeater.{alternateFor, tickedAll, pulsedAll, burstOf, setTo, gotOf}
+use Rattle.repeater.specs.Repeater.{quieted, alternateFor, burstOf, setTo, gotOf}
 
 abbrev pub standingAt : Repeater → ℕ → Standing
-standingAt r i = standingOf (getD (r .ports) i noPort)
+standingAt r i = standingOf (portAt r i)
 
-unfoldable pub followedEvent : Repeater → Hearing → Burst → ℕ → Event
-followedEvent r g b i =
-    cond (has (g .t) i) (eventOf (meetingOf g (effectOf g b) b (alternateFor (r .«alternate_aui») (r .«alternate_tp») i) i)) neither
+unfoldable pub followedEvent : Repeater → Bus → Hearing → Activity → ℕ → Event
+followedEvent r bus hearing activity i =
+    let effect : Effect = effectOf bus hearing activity in
+    let alternate : Bool = alternateFor (r .«alternate_aui») (r .«alternate_tp») i in
+    cond (has (hearing .t) i) (eventOf (meetingOf effect activity (setOf (cleanAt hearing effect)) alternate i)) neither
 
-unfoldable pub burstEvent : Repeater → Burst → ℕ → Event
-burstEvent r b i = followedEvent r (hearingOf (r .ports) b) b i
+unfoldable pub burstEvent : Repeater → Activity → ℕ → Event
+burstEvent r activity i = followedEvent r Bus.Nothing (hearingOf r activity) activity i
 
 unfoldable pub disables : Setting → ℕ → Bool
 disables AlternateAui i = false
@@ -49,28 +55,25 @@ disables (LinkTestOn k) i = false
 
 -- what is disabled already is not disabled again
 unfoldable pub setEvent : Setting → Repeater → ℕ → Event
-setEvent s r i = cond (disables s i && getD (r .ports) i noPort .enabled) cleared neither
+setEvent s r i = cond (disables s i && portAt r i .enabled) cleared neither
 
 pub data Input : Type 0 where
-  burst : Burst → Input
-  pulse : ℕ → Input
-  tick : Input
+  burst : Activity → Input
+  quiet : Quiet → Input
   setting : Setting → Input
   query : Query → Input
   reset : Input
 
 abbrev pub afterInput : Repeater → Input → Repeater
-afterInput r (burst b) = burstOf r b .repeater
-afterInput r (pulse m) = pulsedAll r m
-afterInput r tick = tickedAll r
+afterInput r (burst activity) = burstOf r activity .repeater
+afterInput r (quiet q) = quieted q r
 afterInput r (setting s) = setTo s r
 afterInput r (query q) = gotOf q r .repeater
 afterInput r reset = powerUp
 
 abbrev pub inputEvent : ℕ → Repeater → Input → Event
-inputEvent i r (burst b) = burstEvent r b i
-inputEvent i r (pulse m) = neither
-inputEvent i r tick = neither
+inputEvent i r (burst activity) = burstEvent r activity i
+inputEvent i r (quiet q) = neither
 inputEvent i r (setting s) = setEvent s r i
 inputEvent i r (query q) = neither
 inputEvent i r reset = cleared

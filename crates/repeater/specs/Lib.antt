@@ -1,4 +1,5 @@
 -- The repeater's rules, from those of a port and of a burst.
+pub mod Door
 pub mod Reset
 pub mod Hearing
 pub mod Answers

@@ -1,6 +1,8 @@
--- Document 01, 'Boundary sheet', the rows that the repeater decides by itself, and 'Shortcuts that look right', as tables. A row is a list of inputs from power-up, a
--- port, and how that port is to stand after them: connected with a count or partitioned, and whether its link passes. proofs/Sheet.antt computes every row.
---   active m d x  == a burst (activity of burst/specs/Scenes) as an input: mask, duration and length of the collision, with neither flag
+-- Document 01, 'Boundary sheet', the rows that the repeater decides by itself, and 'Shortcuts that look right', as tables. A row is a list of inputs
+-- from power-up, a port, and how that port is to stand after them: connected with a count or partitioned, and whether its link passes.
+-- proofs/Sheet.antt computes every row.
+--   pulse m, tick == link pulses, and a tick, as inputs
+--   active m d x  == a burst (activityOf of burst/specs/Scenes) as an input: mask, duration and length of the collision, with neither flag
 --   mistimed m d  == one with rate error and no collision
 --   passing       == four link pulses: the links of TP0, TP1 and TP2 pass
 --   Row, found    == a row of a table; how its port stands
@@ -13,25 +15,33 @@
 use Prim.Native.Nat.{ℕ}
 use mathlib.Core.Bool.{Bool, true, false}
 use mathlib.Core.List.{List, [], _∷_, _++_}
-use lib.ListN.{getD, replicate}
-use Rattle.burst.specs.declared.Burst.{Burst}
+use lib.ListN.{replicate}
+use Rattle.ports.specs.declared.Quiet.the-variants.{Pulse, Tick}
+use Rattle.ports.specs.Sets.{aui, nobody}
+use Rattle.burst.specs.declared.Activity.{Activity}
 use Rattle.burst.specs.declared.Word.{Word}
 use Rattle.burst.specs.declared.Word.the-variants.{Nil, Rep, Jam}
 use Rattle.burst.specs.declared.Effect.{Effect}
-use Rattle.burst.specs.Scenes.{activity}
+use Rattle.burst.specs.Scenes.{activityOf}
 use Rattle.management.specs.declared.Setting.the-variants.{AlternateTp, DisableAui, DisableTp, EnableTp, LinkTestOff, LinkTestOn}
-use Rattle.port.specs.Port.{noPort}
 use Rattle.history.specs.History.{Event, collided, clean, neither, cleared, Standing, connected, partitioned}
 use Rattle.repeater.specs.declared.Repeater.{Repeater}
+use Rattle.repeater.specs.Door.{portAt}
 use Rattle.repeater.specs.Reset.{powerUp}
 use Rattle.repeater.specs.Repeater.{burstOf}
-use Rattle.repeater.specs.Events.{standingAt, Input, burst, pulse, tick, setting, reset, afterInputs}
+use Rattle.repeater.specs.Events.{standingAt, Input, burst, quiet, setting, reset, afterInputs}
+
+abbrev pub pulse : ℕ → Input
+pulse mask = quiet (Pulse mask)
+
+abbrev pub tick : Input
+tick = quiet Tick
 
 abbrev pub active : ℕ → ℕ → ℕ → Input
-active mask d x = burst (activity mask false false d x)
+active mask d x = burst (activityOf mask false false d x)
 
 abbrev pub mistimed : ℕ → ℕ → Input
-mistimed mask d = burst (activity mask true false d 0)
+mistimed mask d = burst (activityOf mask true false d 0)
 
 abbrev pub passing : List Input
 passing = replicate 4 (pulse 0b111)
@@ -57,9 +67,9 @@ abbrev pub row : List Input → ℕ → Standing → Bool → Row
 row inputs i standing passes = record { inputs = inputs; place = i; wanted = record { standing = standing; passes = passes } }
 
 abbrev pub found : Row → Seen
-found w =
-    let r : Repeater = afterInputs powerUp (w .inputs) in
-    record { standing = standingAt r (w .place); passes = getD (r .ports) (w .place) noPort .«link_pass» }
+found line =
+    let r : Repeater = afterInputs powerUp (line .inputs) in
+    record { standing = standingAt r (line .place); passes = portAt r (line .place) .«link_pass» }
 
 abbrev pub sheet : List Row
 sheet =
@@ -75,8 +85,8 @@ sheet =
     ∷ row (passing ++ replicate 100 tick) 0 (connected 0) false
     ∷ []
 
--- TP0 is partitioned and goes by the alternate algorithm: its own activity does not reconnect it, and data sent to it does. After 31 collisions TP2, or TP0 itself, is
--- heard alone with a rate error: jam goes out, the count stays, and one more collision partitions
+-- TP0 is partitioned and goes by the alternate algorithm: its own activity does not reconnect it, and data sent to it does. After 31 collisions TP2, or
+-- TP0 itself, is heard alone with a rate error: jam goes out, the count stays, and one more collision partitions
 abbrev pub shortcuts : List Row
 shortcuts =
     row (setting AlternateTp ∷ parted ++ (active 0b001 2000 0 ∷ [])) 0 partitioned true
@@ -87,8 +97,9 @@ shortcuts =
     ∷ row (passing ++ replicate 31 (collision 300) ++ (mistimed 0b001 2000 ∷ collision 300 ∷ [])) 0 partitioned true
     ∷ []
 
--- 'Link (TP)' and the Sets that reach it: three pulses or four, a pulse and activity zero idle, a hundred silent ticks clear the pulses; failure neither reconnects nor
--- zeroes the count; without link test no tick fails, and it starts at pass; enabling fails the link, disabling connects, and neither does what is done already
+-- 'Link (TP)' and the Sets that reach it: three pulses or four, a pulse and activity zero idle, a hundred silent ticks clear the pulses; failure
+-- neither reconnects nor zeroes the count; without link test no tick fails, and it starts at pass; enabling fails the link, disabling connects, and
+-- neither does what is done already; while it is disabled a hundred ticks fail the link, and four pulses or activity bring it back
 abbrev pub links : List Row
 links =
     row (replicate 3 (pulse 1)) 0 (connected 0) false
@@ -107,17 +118,25 @@ links =
     ∷ row (passing ++ (setting (DisableTp 0) ∷ setting (EnableTp 0) ∷ [])) 0 (connected 0) false
     ∷ row (passing ++ (setting (EnableTp 0) ∷ [])) 0 (connected 0) true
     ∷ row (parted ++ (setting (DisableTp 0) ∷ [])) 0 (connected 0) true
+    ∷ row (passing ++ (setting (DisableTp 0) ∷ replicate 99 tick)) 0 (connected 0) true
+    ∷ row (passing ++ (setting (DisableTp 0) ∷ replicate 100 tick)) 0 (connected 0) false
+    ∷ row (passing ++ (setting (DisableTp 0) ∷ replicate 100 tick ++ replicate 3 (pulse 1))) 0 (connected 0) false
+    ∷ row (passing ++ (setting (DisableTp 0) ∷ replicate 100 tick ++ replicate 4 (pulse 1))) 0 (connected 0) true
+    ∷ row (passing ++ (setting (DisableTp 0) ∷ replicate 100 tick ++ (active 1 100 0 ∷ []))) 0 (connected 0) true
     ∷ row (replicate 100 tick) 8 (connected 0) true
     ∷ []
 
 pub record Scene : Type 0 where
   pub inputs : List Input
-  pub last : Burst
+  pub last : Activity
   pub wanted : Effect
 
-abbrev pub scene : List Input → Burst → Word → ℕ → ℕ → Bool → Scene
-scene inputs b word out colliding collision =
-    record { inputs = inputs; last = b; wanted = record { word = word; out = out; collided = colliding; collision = collision } }
+abbrev pub scene : List Input → Activity → Word → ℕ → ℕ → ℕ → Bool → Bool → Scene
+scene inputs last word out colliding single collision transmitted = record {
+  inputs = inputs;
+  last = last;
+  wanted = record { word = word; out = out; collided = colliding; single = single; collision = collision; «transmit_collision» = transmitted };
+}
 
 abbrev pub followedBy : Scene → Effect
 followedBy w = burstOf (afterInputs powerUp (w .inputs)) (w .last) .effect
@@ -126,28 +145,28 @@ followedBy w = burstOf (afterInputs powerUp (w .inputs)) (w .last) .effect
 abbrev pub auiParted : List Input
 auiParted = passing ++ (active 0b100000011 2000 1025 ∷ [])
 
--- T is TP0, TP1, TP2 and AUI, but for the last. In order: one heard; none, as the link of TP3 fails; two; TP3 active beside them, which is not in T; a rate error; AUI;
--- AUI with its signal, and by the signal alone; TP0 and TP1 partitioned and active, which is no reason to jam, and TP0 beside TP2; AUI partitioned: its signal beside TP2
--- leaves the word, and alone it collides; AUI disabled: nothing
+-- T is TP0, TP1, TP2 and AUI, but for the last. In order: one heard; none, as the link of TP3 fails; two; TP3 active beside them, which is not in T; a
+-- rate error; AUI; AUI with its signal, and by the signal alone; TP0 and TP1 partitioned and active, which is no reason to jam, and TP0 beside TP2; AUI
+-- partitioned: its signal beside TP2 leaves the word, and alone it collides; AUI disabled: nothing
 abbrev pub scenes : List Scene
 scenes =
-    scene passing (activity 0b000000001 false false 2000 0) Rep 0b100000110 0b000000000 false
-    ∷ scene passing (activity 0b000001000 false false 2000 0) Nil 0b000000000 0b000000000 false
-    ∷ scene passing (activity 0b000000011 false false 2000 300) Jam 0b100000111 0b000000011 true
-    ∷ scene passing (activity 0b000001011 false false 2000 300) Jam 0b100000111 0b000000011 true
-    ∷ scene passing (activity 0b000000001 true false 2000 0) Jam 0b100000110 0b000000000 false
-    ∷ scene passing (activity 0b100000000 false false 2000 0) Rep 0b000000111 0b000000000 false
-    ∷ scene passing (activity 0b100000000 false true 2000 300) Jam 0b000000111 0b100000000 true
-    ∷ scene passing (activity 0b000000000 false true 2000 300) Jam 0b000000111 0b100000000 true
-    ∷ scene parted (activity 0b000000011 false false 2000 300) Nil 0b000000000 0b000000000 false
-    ∷ scene parted (activity 0b000000101 false false 2000 300) Rep 0b100000011 0b000000001 false
-    ∷ scene auiParted (activity 0b000000100 false true 2000 300) Rep 0b100000011 0b100000000 false
-    ∷ scene auiParted (activity 0b000000000 false true 2000 300) Nil 0b000000000 0b100000000 false
-    ∷ scene (passing ++ (setting DisableAui ∷ [])) (activity 0b000000000 false true 2000 300) Nil 0b000000000 0b000000000 false
+    scene passing (activityOf 0b000000001 false false 2000 0) Rep 0b100000110 0b000000000 0 false false
+    ∷ scene passing (activityOf 0b000001000 false false 2000 0) Nil 0b000000000 0b000000000 nobody false false
+    ∷ scene passing (activityOf 0b000000011 false false 2000 300) Jam 0b100000111 0b000000011 nobody true true
+    ∷ scene passing (activityOf 0b000001011 false false 2000 300) Jam 0b100000111 0b000000011 nobody true true
+    ∷ scene passing (activityOf 0b000000001 true false 2000 0) Jam 0b100000110 0b000000000 0 false false
+    ∷ scene passing (activityOf 0b100000000 false false 2000 0) Rep 0b000000111 0b000000000 aui false false
+    ∷ scene passing (activityOf 0b100000000 false true 2000 300) Jam 0b000000111 0b100000000 aui true false
+    ∷ scene passing (activityOf 0b000000000 false true 2000 300) Jam 0b000000111 0b100000000 aui true false
+    ∷ scene parted (activityOf 0b000000011 false false 2000 300) Nil 0b000000000 0b000000000 nobody false false
+    ∷ scene parted (activityOf 0b000000101 false false 2000 300) Rep 0b100000011 0b000000001 2 false false
+    ∷ scene auiParted (activityOf 0b000000100 false true 2000 300) Rep 0b100000011 0b100000000 2 false false
+    ∷ scene auiParted (activityOf 0b000000000 false true 2000 300) Nil 0b000000000 0b100000000 nobody false false
+    ∷ scene (passing ++ (setting DisableAui ∷ [])) (activityOf 0b000000000 false true 2000 300) Nil 0b000000000 0b000000000 nobody false false
     ∷ []
 
--- one input of each kind that matters to a port's history, and what each is to TP0: after the link pulses it collides, is heard alone, is sent jam, is disabled, is
--- disabled once more, is active while it is disabled, and is reset
+-- one input of each kind that matters to a port's history, and what each is to TP0: after the link pulses it collides, is heard alone, is sent jam, is
+-- disabled, is disabled once more, is active while it is disabled, and is reset
 abbrev pub story : List Input
 story =
     passing

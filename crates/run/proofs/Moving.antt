@@ -6,7 +6,8 @@ use native.Mathlib.Omega.{arith}
 use lib.ListN.{length, getD, set, take, drop, length-drop}
 use lib.Seq.{take-suc, take-suc-set, drop-set-lt, drop-drop, getD-drop}
 
-module _ (old buf : List ℕ) (at i : ℕ) (same : length buf ≡ length old) (inside : at + i < length old) (front : take i buf ≡ take i (drop at old)) (back : drop i buf ≡ drop i old) where
+module _ (old buf : List ℕ) (at i : ℕ) (same : length buf ≡ length old) (inside : at + i < length old)
+    (front : take i buf ≡ take i (drop at old)) (back : drop i buf ≡ drop i old) where
   -- the byte that is moved next is still the old one
   old-byte : getD buf (at + i) 0 ≡ getD (drop at old) i 0
   old-byte =

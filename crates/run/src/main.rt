@@ -3,8 +3,9 @@
 ghost use Prim.Native.Nat.{_+_, _≤_, _<_};
 ghost use mathlib.Core.Path.{_≡_};
 ghost use lib.ListN.{length, take, drop};
-ghost use Rattle.run.specs.Kept.{Kept};
-use himib::step::Chip;
+ghost use Rattle.record.specs.Record.{recordLength};
+ghost use Rattle.run.specs.Kept.{bufferLength, Kept};
+use chip::Chip;
 use host::Host;
 
 // Where the run stands: the chip, the host's record and the next record's number.
@@ -50,7 +51,7 @@ fn fill(buf: &mut [u8], have: usize) -> usize
 
 // The last piece, where there is one that is not whole: it is a record too.
 fn finish(number: u64, piece: &[u8], out: &mut [u8])
-    requires { ⌜ length (now out) ≡ 65536 ⌝ }
+    requires { ⌜ length (now out) ≡ bufferLength ⌝ }
 {
     if piece.len() == 0 {
         return;
@@ -64,8 +65,8 @@ fn finish(number: u64, piece: &[u8], out: &mut [u8])
 // Answers the whole records among the buffer's first bytes, and moves what is left of these bytes to the front.
 fn work(state: State, total: usize, buf: &mut [u8], out: &mut [u8]) -> Done
     requires { ⌜ total ≤ length (now buf) ⌝ }
-    requires { ⌜ length (now buf) ≡ 65536 ⌝ }
-    requires { ⌜ length (now out) ≡ 65536 ⌝ }
+    requires { ⌜ length (now buf) ≡ bufferLength ⌝ }
+    requires { ⌜ length (now out) ≡ bufferLength ⌝ }
     ensures { λ r. ⌜ Kept state (take total (now (buf .entry))) (now (out .entry)) r (now (buf .exit)) (now (out .exit)) ⌝ }
 {
     let chip = state.chip;
@@ -95,10 +96,10 @@ fn work(state: State, total: usize, buf: &mut [u8], out: &mut [u8]) -> Done
 
 // One reading, its answers and one writing. The end of the input ends it, and so does an output that is closed.
 fn one_turn(state: State, have: usize, buf: &mut [u8], out: &mut [u8]) -> Turn
-    requires { ⌜ have < 32 ⌝ }
-    requires { ⌜ length (now buf) ≡ 65536 ⌝ }
-    requires { ⌜ length (now out) ≡ 65536 ⌝ }
-    ensures { λ r. ⌜ r .have < 32 ⌝ }
+    requires { ⌜ have < recordLength ⌝ }
+    requires { ⌜ length (now buf) ≡ bufferLength ⌝ }
+    requires { ⌜ length (now out) ≡ bufferLength ⌝ }
+    ensures { λ r. ⌜ r .have < recordLength ⌝ }
 {
     let total = fill(buf, have);
     if total == have {
@@ -122,8 +123,8 @@ fn one_turn(state: State, have: usize, buf: &mut [u8], out: &mut [u8]) -> Turn
 
 // A proved loop has to end, so the readings are counted down from a number that no run uses up.
 fn pump(state: State, buf: &mut [u8], out: &mut [u8])
-    requires { ⌜ length (now buf) ≡ 65536 ⌝ }
-    requires { ⌜ length (now out) ≡ 65536 ⌝ }
+    requires { ⌜ length (now buf) ≡ bufferLength ⌝ }
+    requires { ⌜ length (now out) ≡ bufferLength ⌝ }
 {
     let mut turns = u64::MAX;
     let mut s = state;

@@ -1,10 +1,15 @@
 // The chip that a start file describes.
-ghost use Prim.Native.Nat.{_+_, _*_, _≤_, _<_};
+ghost use Prim.Native.Nat.{_+_, _≤_};
 ghost use mathlib.Core.Path.{_≡_};
 ghost use lib.ListN.{length};
-ghost use Rattle.start.specs.Start.{littleAt, countersIn, addressIn, attributesIn, nineIn, startedOf};
+ghost use Rattle.ports.specs.Sets.{portCount};
+ghost use Rattle.start.specs.Start.{countersSize, portSize, startSize};
+ghost use Rattle.start.specs.Start.{numberFrom, countersFrom, addressFrom, portFrom, nineUpTo, supplyIn, nothingGiven, startedOf};
 use attributes::Attributes;
-use himib::step::Chip;
+use attributes::Nine;
+use chip::Chip;
+use chip::Kept;
+use chip::Supply;
 
 // A chip at power-up, and whether the file had the right size.
 pub struct Started {
@@ -13,73 +18,106 @@ pub struct Started {
 }
 
 impl Started {
-    // The bytes of a start file, and of one port in it.
-    pub const SIZE: usize = 530;
+    // The bytes of a port's counters, and of a port: its address of six bytes stands behind them.
+    pub const COUNTERS: usize = 4 * Attributes::COUNT;
 
-    pub const PORT: usize = 58;
+    pub const PORT: usize = Started::COUNTERS + 6;
+
+    // Where the chip's own two counters stand, behind the ports.
+    pub const COLLISIONS_FROM: usize = Started::PORT * ports::COUNT;
+
+    pub const OCTETS_FROM: usize = Started::COLLISIONS_FROM + 4;
+
+    // The bytes of a start file.
+    pub const SIZE: usize = Started::OCTETS_FROM + 4;
 }
 
-fn wide(b: u8) -> u32
-    ensures { λ r. ⌜ (r ≡ b) × (r < 256) ⌝ }
-{
-    b as u32
-}
-
-// The number in four bytes.
-fn little(s: &[u8], i: usize) -> u32
+// The number in the four bytes from byte i on.
+fn number_from(s: &[u8], i: usize) -> u32
     requires { ⌜ i + 4 ≤ length (now s) ⌝ }
-    ensures { λ r. ⌜ r ≡ littleAt (now (s .entry)) i ⌝ }
+    ensures { λ r. ⌜ r ≡ numberFrom (now (s .entry)) i ⌝ }
 {
-    wide(s[i]) + 256 * wide(s[i + 1]) + 65536 * wide(s[i + 2]) + 16777216 * wide(s[i + 3])
+    spelling::four(s[i], s[i + 1], s[i + 2], s[i + 3])
 }
 
-fn counters(s: &[u8], i: usize) -> [u32; 13]
-    requires { ⌜ (i < 9) × (length (now s) ≡ 530) ⌝ }
-    ensures { λ r. ⌜ r ≡ countersIn (now (s .entry)) i ⌝ }
+fn counters_from(s: &[u8], i: usize) -> [u32; 13]
+    requires { ⌜ i + countersSize ≤ length (now s) ⌝ }
+    ensures { λ r. ⌜ r ≡ countersFrom (now (s .entry)) i ⌝ }
 {
     let mut out = [0u32; 13];
-    for r in 0..13 {
-        out[r] = little(s, 58 * i + 4 * r);
+    for r in 0..Attributes::COUNT {
+        out[r] = number_from(s, i + 4 * r);
     }
     out
 }
 
-fn address(s: &[u8], i: usize) -> [u8; 6]
-    requires { ⌜ (i < 9) × (length (now s) ≡ 530) ⌝ }
-    ensures { λ r. ⌜ r ≡ addressIn (now (s .entry)) i ⌝ }
+fn address_from(s: &[u8], i: usize) -> [u8; 6]
+    requires { ⌜ i + 6 ≤ length (now s) ⌝ }
+    ensures { λ r. ⌜ r ≡ addressFrom (now (s .entry)) i ⌝ }
 {
     let mut out = [0u8; 6];
     for j in 0..6 {
-        out[j] = s[58 * i + 52 + j];
+        out[j] = s[i + j];
     }
     out
 }
 
-fn attributes_in(s: &[u8], i: usize) -> Attributes
-    requires { ⌜ (i < 9) × (length (now s) ≡ 530) ⌝ }
-    ensures { λ r. ⌜ r ≡ attributesIn (now (s .entry)) i ⌝ }
+// One port's.
+fn port_from(s: &[u8], i: usize) -> Attributes
+    requires { ⌜ i + portSize ≤ length (now s) ⌝ }
+    ensures { λ r. ⌜ r ≡ portFrom (now (s .entry)) i ⌝ }
 {
-    let c = counters(s, i);
-    let a = address(s, i);
+    let counters = counters_from(s, i);
+    let address = address_from(s, i + Started::COUNTERS);
     Attributes {
-        counters: c,
-        address: a,
+        counters: counters,
+        address: address,
     }
 }
 
-fn nine_in(s: &[u8]) -> [Attributes; 9]
-    requires { ⌜ length (now s) ≡ 530 ⌝ }
-    ensures { λ r. ⌜ r ≡ nineIn (now (s .entry)) ⌝ }
+// All nine ports'.
+fn nine_in(s: &[u8]) -> Nine
+    requires { ⌜ length (now s) ≡ startSize ⌝ }
+    ensures { λ r. ⌜ r ≡ nineUpTo (now (s .entry)) portCount ⌝ }
 {
-    let none = Attributes {
-        counters: [0; 13],
-        address: [0; 6],
-    };
-    let mut out = [none; 9];
-    for i in 0..9 {
-        out[i] = attributes_in(s, i);
+    let mut nine = Nine::zero();
+    for i in 0..ports::COUNT {
+        let port = port_from(s, Started::PORT * i);
+        let next = nine.with_port(i, port);
+        nine = next;
     }
-    out
+    nine
+}
+
+// What a start file gives at power-up.
+fn supply_in(s: &[u8]) -> Supply
+    requires { ⌜ length (now s) ≡ startSize ⌝ }
+    ensures { λ r. ⌜ r ≡ supplyIn (now (s .entry)) ⌝ }
+{
+    let nine = nine_in(s);
+    let collisions = number_from(s, Started::COLLISIONS_FROM);
+    let octets = number_from(s, Started::OCTETS_FROM);
+    Supply {
+        attributes: nine,
+        kept: Kept {
+            transmit_collisions: collisions,
+            total_octets: octets,
+        },
+    }
+}
+
+// Zeros.
+fn nothing() -> Supply
+    ensures { λ r. ⌜ r ≡ nothingGiven ⌝ }
+{
+    let nine = Nine::zero();
+    Supply {
+        attributes: nine,
+        kept: Kept {
+            transmit_collisions: 0,
+            total_octets: 0,
+        },
+    }
 }
 
 // The chip at power-up with the counters and addresses of a start file.
@@ -87,19 +125,15 @@ pub fn start_chip(s: &[u8]) -> Started
     ensures { λ r. ⌜ r ≡ startedOf (now (s .entry)) ⌝ }
 {
     if s.len() == Started::SIZE {
-        let nine = nine_in(s);
-        let chip = Chip::power_up(nine, little(s, 522), little(s, 526));
+        let given = supply_in(s);
+        let chip = Chip::power_up(given);
         return Started {
             fits: true,
             chip: chip,
         };
     }
-    let none = Attributes {
-        counters: [0; 13],
-        address: [0; 6],
-    };
-    let nine = [none; 9];
-    let chip = Chip::power_up(nine, 0, 0);
+    let given = nothing();
+    let chip = Chip::power_up(given);
     Started {
         fits: false,
         chip: chip,

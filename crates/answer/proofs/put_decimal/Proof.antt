@@ -26,14 +26,18 @@ cast-put-eight-digits : tie.Need-cast-put-eight-digits
 cast-put-eight-digits c = search needs
 
 put-eight-digits-requires : tie.Need-put-eight-digits-requires
-put-eight-digits-requires c κs = (omega (arith, decimal-length-le 11 (c .before .before .before .before .before .before .before .args .number / 100_000_000) (omega arith)), search needs)
+put-eight-digits-requires c κs =
+    (omega (arith, decimal-length-le 11 (c .before .before .before .before .before .before .before .args .number / 100_000_000) (omega arith)), search needs)
 
 same-length-2 : tie.Need-same-length-2
 same-length-2 c = search needs
 
 returns-2 : tie.Need-returns-2
 returns-2 c =
-    put-as (decimal-two-groups (c .before .before .before .before .before .before .before .before .before .before .args .number) (c .before .before .before .before .before .before .before .before .if1 .left)) (put-then (c .before .before .before .before .before .before .put-three-groups .ensures) (c .before .before .put-eight-digits .ensures))
+    put-as
+    (decimal-two-groups (c .before .before .before .before .before .before .before .before .before .before .args .number)
+    (c .before .before .before .before .before .before .before .before .if1 .left))
+    (put-then (c .before .before .before .before .before .before .put-three-groups .ensures) (c .before .before .put-eight-digits .ensures))
 
 pub put-decimal-spec : {M : Type 1} → statement M
 put-decimal-spec =

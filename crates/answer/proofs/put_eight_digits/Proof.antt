@@ -16,7 +16,8 @@ same-length c = search needs
 
 returns : tie.Need-returns
 returns c =
-    put-as (padded-eight (c .before .before .before .before .before .before .before .before .before .args .number)) (put-then (c .before .before .before .before .before .before .put-four-digits .ensures) (c .before .before .put-four-digits2 .ensures))
+    put-as (padded-eight (c .before .before .before .before .before .before .before .before .before .args .number))
+    (put-then (c .before .before .before .before .before .before .put-four-digits .ensures) (c .before .before .put-four-digits2 .ensures))
 
 pub put-eight-digits-spec : {M : Type 1} → statement M
 put-eight-digits-spec =

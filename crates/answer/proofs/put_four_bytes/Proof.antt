@@ -1,7 +1,8 @@
 -- `answer::put_four_bytes` meets its contract. Four stores at neighbouring places. Assumes nothing.
 use native.Mathlib.Omega.{arith}
 use lib.ListN.{length-set}
-use Rattle.answer.proofs.Pieces.{four-put}
+use Rattle.answer.proofs.Digits.{four-least}
+use Rattle.answer.proofs.Pieces.{four-put, put-as}
 use borrow.Author.Needs.{needs}
 use Rattle.answer.proofs.put_four_bytes.Statement.{statement}
 use Rattle.answer.proofs.put_four_bytes.Tie as tie
@@ -46,7 +47,7 @@ same-length : tie.Need-same-length
 same-length c = search needs
 
 returns : tie.Need-returns
-returns c = four-put _ _ _ _ _ _
+returns c = put-as (four-least _) (four-put _ _ _ _ _ _)
 
 pub put-four-bytes-spec : {M : Type 1} → statement M
 put-four-bytes-spec =

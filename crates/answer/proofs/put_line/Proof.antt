@@ -15,7 +15,8 @@ same-length c = search needs
 
 returns : tie.Need-returns
 returns c =
-    written (c .before .before .before .before .before .if1 .taken) (c .before .before .before .before .if2 .taken) (c .before .before .put-whole .ensures .0) (c .before .before .put-whole .ensures .1)
+    written (c .before .before .before .before .before .if1 .taken) (c .before .before .before .before .if2 .taken) (c .before .before .put-whole .ensures .0)
+    (c .before .before .put-whole .ensures .1)
 
 returns-2 : tie.Need-returns-2
 returns-2 c = unwritten _ _ _ _ (short-of-room _ _ (c .before .if1 .taken) (c .if2 .left))

@@ -17,7 +17,12 @@ put-group-requires : tie.Need-put-group-requires
 put-group-requires c κs = search needs
 
 put-byte-requires-2 : tie.Need-put-byte-requires-2
-put-byte-requires-2 c κs = omega (arith, decimal-length-le 2 (c .before .before .before .before .before .before .before .before .before .before .before .before .before .before .args .number) (omega arith))
+put-byte-requires-2 c κs =
+    omega (
+      arith,
+      decimal-length-le 2 (c .before .before .before .before .before .before .before .before .before .before .before .before .before .before .args .number)
+          (omega arith),
+    )
 
 same-length : tie.Need-same-length
 same-length c = search needs
@@ -26,7 +31,10 @@ returns : tie.Need-returns
 unfolding saidOf tailOf
 returns c =
     put-then
-    (put-then (put-then (c .before .before .before .before .before .before .before .before .before .before .before .before .before .before .put-text .ensures) (c .before .before .before .before .before .before .before .before .before .before .put-byte .ensures)) (c .before .before .before .before .before .before .put-group .ensures))
+    (put-then
+    (put-then (c .before .before .before .before .before .before .before .before .before .before .before .before .before .before .put-text .ensures)
+    (c .before .before .before .before .before .before .before .before .before .before .put-byte .ensures))
+    (c .before .before .before .before .before .before .put-group .ensures))
     (c .before .before .put-byte2 .ensures)
 
 pub put-refused-spec : {M : Type 1} → statement M

@@ -22,7 +22,10 @@ same-length c = search needs
 returns : tie.Need-returns
 unfolding saidOf tailOf
 returns c =
-    put-then (put-then (c .before .before .before .before .before .before .before .before .before .before .put-word .ensures) (c .before .before .before .before .before .before .put-mask .ensures)) (c .before .before .put-byte .ensures)
+    put-then
+    (put-then (c .before .before .before .before .before .before .before .before .before .before .put-word .ensures)
+    (c .before .before .before .before .before .before .put-mask .ensures))
+    (c .before .before .put-byte .ensures)
 
 pub put-sent-spec : {M : Type 1} → statement M
 put-sent-spec =

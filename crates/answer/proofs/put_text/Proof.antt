@@ -1,14 +1,14 @@
--- `answer::put_text` meets its contract. The four bytes of the number that `spell` makes are the four bytes. Assumes nothing.
+-- `answer::put_text` meets its contract. The four bytes of the number that `spelling::four` makes are the four bytes. Assumes nothing.
 use mathlib.Core.Path.{ap, _∙_}
-use Rattle.answer.specs.Put.{fourBytes}
+use Rattle.spelling.specs.Spelling.{leastFirst}
 use Rattle.answer.proofs.Pieces.{put-as}
 use Rattle.answer.proofs.Digits.{four-spelt}
 use borrow.Author.Needs.{needs}
 use Rattle.answer.proofs.put_text.Statement.{statement}
 use Rattle.answer.proofs.put_text.Tie as tie
 
-spell-requires : tie.Need-spell-requires
-spell-requires c κs = search needs
+four-requires : tie.Need-four-requires
+four-requires c κs = search needs
 
 put-four-bytes-requires : tie.Need-put-four-bytes-requires
 put-four-bytes-requires c κs = search needs
@@ -22,9 +22,9 @@ returns c =
     let x = start .args in
     let f = start .fits in
     put-as
-    (ap fourBytes (c .before .before .before .spell .ensures)
+    (ap (leastFirst 4) (c .before .before .before .four .ensures)
     ∙ four-spelt (x .a) (x .b) (x .c) (x .d) (f .a .fits) (f .b .fits) (f .c .fits) (f .d .fits))
     (c .before .before .put-four-bytes .ensures)
 
 pub put-text-spec : {M : Type 1} → statement M
-put-text-spec = tie.close (tie.spec spell-requires put-four-bytes-requires same-length returns)
+put-text-spec = tie.close (tie.spec four-requires put-four-bytes-requires same-length returns)

@@ -29,14 +29,18 @@ cast-put-four-digits : tie.Need-cast-put-four-digits
 cast-put-four-digits c = search needs
 
 put-four-digits-requires : tie.Need-put-four-digits-requires
-put-four-digits-requires c κs = (omega (arith, decimal-length-le 3 (c .before .before .before .before .before .before .before .before .args .number / 10000) (omega arith)), search needs)
+put-four-digits-requires c κs =
+    (omega (arith, decimal-length-le 3 (c .before .before .before .before .before .before .before .before .args .number / 10000) (omega arith)), search needs)
 
 same-length-2 : tie.Need-same-length-2
 same-length-2 c = search needs
 
 returns-2 : tie.Need-returns-2
 returns-2 c =
-    put-as (decimal-group (c .before .before .before .before .before .before .before .before .before .before .before .args .number) (c .before .before .before .before .before .before .before .before .before .if1 .left)) (put-then (c .before .before .before .before .before .before .put-group2 .ensures) (c .before .before .put-four-digits .ensures))
+    put-as
+    (decimal-group (c .before .before .before .before .before .before .before .before .before .before .before .args .number)
+    (c .before .before .before .before .before .before .before .before .before .if1 .left))
+    (put-then (c .before .before .before .before .before .before .put-group2 .ensures) (c .before .before .put-four-digits .ensures))
 
 cast-put-group-3 : tie.Need-cast-put-group-3
 cast-put-group-3 c = search needs
@@ -48,14 +52,20 @@ cast-put-eight-digits : tie.Need-cast-put-eight-digits
 cast-put-eight-digits c = search needs
 
 put-eight-digits-requires : tie.Need-put-eight-digits-requires
-put-eight-digits-requires c κs = (omega (arith, decimal-length-le 3 (c .before .before .before .before .before .before .before .before .args .number / 100_000_000) (omega arith)), search needs)
+put-eight-digits-requires c κs = (
+  omega (arith, decimal-length-le 3 (c .before .before .before .before .before .before .before .before .args .number / 100_000_000) (omega arith)),
+  search needs,
+)
 
 same-length-3 : tie.Need-same-length-3
 same-length-3 c = search needs
 
 returns-3 : tie.Need-returns-3
 returns-3 c =
-    put-as (decimal-two-groups (c .before .before .before .before .before .before .before .before .before .before .before .args .number) (c .before .before .before .before .before .before .before .before .if2 .left)) (put-then (c .before .before .before .before .before .before .put-group3 .ensures) (c .before .before .put-eight-digits .ensures))
+    put-as
+    (decimal-two-groups (c .before .before .before .before .before .before .before .before .before .before .before .args .number)
+    (c .before .before .before .before .before .before .before .before .if2 .left))
+    (put-then (c .before .before .before .before .before .before .put-group3 .ensures) (c .before .before .put-eight-digits .ensures))
 
 pub put-three-groups-spec : {M : Type 1} → statement M
 put-three-groups-spec =

@@ -28,7 +28,10 @@ same-length c = search needs
 
 returns : tie.Need-returns
 returns c =
-    put-as (two-digits-spelt (c .before .before .before .before .before .before .args .number) _ (c .before .before .before .before .before .before .pre .1) (c .before .before .before .tenth .ensures)) (c .before .before .put-two-bytes .ensures)
+    put-as
+    (two-digits-spelt (c .before .before .before .before .before .before .args .number) _ (c .before .before .before .before .before .before .pre .1)
+    (c .before .before .before .tenth .ensures))
+    (c .before .before .put-two-bytes .ensures)
 
 pub put-two-digits-spec : {M : Type 1} → statement M
 put-two-digits-spec =

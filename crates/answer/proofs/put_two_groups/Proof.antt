@@ -20,14 +20,18 @@ put-group-requires-2 : tie.Need-put-group-requires-2
 put-group-requires-2 c κs = search needs
 
 put-four-digits-requires : tie.Need-put-four-digits-requires
-put-four-digits-requires c κs = (omega (arith, decimal-length-le 3 (c .before .before .before .before .before .before .before .args .number / 10000) (omega arith)), search needs)
+put-four-digits-requires c κs =
+    (omega (arith, decimal-length-le 3 (c .before .before .before .before .before .before .before .args .number / 10000) (omega arith)), search needs)
 
 same-length-2 : tie.Need-same-length-2
 same-length-2 c = search needs
 
 returns-2 : tie.Need-returns-2
 returns-2 c =
-    put-as (decimal-group (c .before .before .before .before .before .before .before .before .before .before .args .number) (c .before .before .before .before .before .before .before .before .if1 .left)) (put-then (c .before .before .before .before .before .before .put-group2 .ensures) (c .before .before .put-four-digits .ensures))
+    put-as
+    (decimal-group (c .before .before .before .before .before .before .before .before .before .before .args .number)
+    (c .before .before .before .before .before .before .before .before .if1 .left))
+    (put-then (c .before .before .before .before .before .before .put-group2 .ensures) (c .before .before .put-four-digits .ensures))
 
 pub put-two-groups-spec : {M : Type 1} → statement M
 put-two-groups-spec =

@@ -20,7 +20,11 @@ returns : tie.Need-returns
 unfolding lineOf
 returns c = (
   put-then (c .before .before .before .before .before .before .put-decimal .ensures) (c .before .before .put-tail .ensures .0),
-  omega (arith, c .before .before .before .before .before .before .put-decimal .ensures .next, decimal-length-le 19 (c .before .before .before .before .before .before .before .before .before .args .number) (omega arith)),
+  omega (
+    arith,
+    c .before .before .before .before .before .before .put-decimal .ensures .next,
+    decimal-length-le 19 (c .before .before .before .before .before .before .before .before .before .args .number) (omega arith),
+  ),
 )
 
 pub put-whole-spec : {M : Type 1} → statement M

@@ -8,9 +8,6 @@ use mathlib.Core.Path.{_≡_, _∙_}
 use Prim.Native.Nat.{_≤_, _-_, _+_, _%_, _^_}
 use Rattle.attributes.proofs.count.Statement.{statement}
 use Rattle.attributes.proofs.count.Tie as tie
-use Rattle.attributes.proofs.count.Reads as reads
-use Rattle.attributes.proofs.count.Lts as lts
-use Rattle.std.proofs.num.wrapping_add_u32.Reads as wrapping-add-u32-reads
 
 abbrev Inv-loop : tie.InvT-loop
 Inv-loop credits out₀ i₀ out i = (i ≤ 13) × (out ≡ done (λ r n. (n + getD credits r 0) % 2 ^ 32) i out₀)

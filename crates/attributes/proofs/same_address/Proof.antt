@@ -3,8 +3,6 @@ use Rattle.attributes.specs.Credits.{sameAddress}
 use borrow.Author.Needs.{needs}
 use Rattle.attributes.proofs.same_address.Statement.{statement}
 use Rattle.attributes.proofs.same_address.Tie as tie
-use Rattle.attributes.proofs.same_address.Reads as reads
-use Rattle.attributes.proofs.same_address.Lts as lts
 
 array-read-result : tie.Need-array-read-result
 array-read-result c = search needs

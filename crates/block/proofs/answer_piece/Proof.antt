@@ -5,9 +5,6 @@ use Rattle.block.proofs.BlockLaws.{piece-refused}
 use borrow.Author.Needs.{needs}
 use Rattle.block.proofs.answer_piece.Statement.{statement}
 use Rattle.block.proofs.answer_piece.Tie as tie
-use Rattle.block.proofs.answer_piece.Reads as reads
-use Rattle.block.proofs.answer_piece.Lts as lts
-use Rattle.answer.proofs.put_line.Reads as put-line-reads
 
 returns : tie.Need-returns
 returns c = record { line = λ n. absurd (n (c .if1 .taken)); none = λ e. (refl, refl) }
@@ -23,9 +20,9 @@ returns-2 c =
     let put = c .before .before .put-line .ensures in
     let args = c .before .before .before .before .before .before .before .args in
     record {
-      line = λ n s h. (
-        put .next ∙ ap (λ (a : Answer). afterLine (args .out .now) 0 (args .number) a) (piece-refused s h (args .piece .now) n),
-        put .bytes ∙ ap (λ (a : Answer). withLine (args .out .now) 0 (args .number) a) (piece-refused s h (args .piece .now) n),
+      line = λ n p. (
+        put .next ∙ ap (λ (a : Answer). afterLine (args .out .now) 0 (args .number) a) (piece-refused p (args .piece .now) n),
+        put .bytes ∙ ap (λ (a : Answer). withLine (args .out .now) 0 (args .number) a) (piece-refused p (args .piece .now) n),
       );
       none = λ e. absurd (c .before .before .before .before .if1 .left e);
     }

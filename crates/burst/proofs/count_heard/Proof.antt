@@ -3,9 +3,6 @@ use borrow.Author.Tests.{eq-eqb, ne-eqb}
 use borrow.Author.Needs.{needs}
 use Rattle.burst.proofs.count_heard.Statement.{statement}
 use Rattle.burst.proofs.count_heard.Tie as tie
-use Rattle.burst.proofs.count_heard.Reads as reads
-use Rattle.burst.proofs.count_heard.Lts as lts
-use Rattle.burst.proofs.place.Reads as place-reads
 
 returns : tie.Need-returns
 unfolding heardOf

@@ -1,10 +1,6 @@
 use borrow.Author.Needs.{needs}
 use Rattle.changes.proofs.aui_bit.Statement.{statement}
 use Rattle.changes.proofs.aui_bit.Tie as tie
-use Rattle.changes.proofs.aui_bit.Reads as reads
-use Rattle.changes.proofs.aui_bit.Lts as lts
-use Rattle.changes.proofs.bit_7.Reads as bit-7-reads
-use Rattle.ports.proofs.contains.Reads as contains-reads
 
 contains-requires : tie.Need-contains-requires
 contains-requires c κs = search needs

@@ -4,8 +4,6 @@ use mathlib.Core.Path.{sym}
 use borrow.Author.Needs.{needs}
 use Rattle.changes.proofs.bits_at.Statement.{statement}
 use Rattle.changes.proofs.bits_at.Tie as tie
-use Rattle.changes.proofs.bits_at.Reads as reads
-use Rattle.changes.proofs.bits_at.Lts as lts
 
 array-read-result : tie.Need-array-read-result
 array-read-result c = search needs

@@ -2,11 +2,6 @@ use Rattle.changes.specs.Changes.{eventsOf}
 use borrow.Author.Needs.{needs}
 use Rattle.changes.proofs.events.Statement.{statement}
 use Rattle.changes.proofs.events.Tie as tie
-use Rattle.changes.proofs.events.Reads as reads
-use Rattle.changes.proofs.events.Lts as lts
-use Rattle.changes.proofs.aui_bit.Reads as aui-bit-reads
-use Rattle.changes.proofs.bit_7.Reads as bit-7-reads
-use Rattle.changes.proofs.tp_byte.Reads as tp-byte-reads
 
 tp-byte-requires : tie.Need-tp-byte-requires
 tp-byte-requires c κs = search needs
@@ -31,7 +26,16 @@ aui-bit-requires-2 c κs = search needs
 
 returns : tie.Need-returns
 unfolding eventsOf
-returns c = rw (c .before .before .before .before .before .before .tp-byte .ensures, c .before .before .before .before .before .aui-bit .ensures, c .before .before .before .before .tp-byte2 .ensures, c .before .before .before .bit-7 .ensures, c .before .before .bit-72 .ensures, c .before .tp-byte3 .ensures, c .aui-bit2 .ensures)
+returns c =
+    rw (
+      c .before .before .before .before .before .before .tp-byte .ensures,
+      c .before .before .before .before .before .aui-bit .ensures,
+      c .before .before .before .before .tp-byte2 .ensures,
+      c .before .before .before .bit-7 .ensures,
+      c .before .before .bit-72 .ensures,
+      c .before .tp-byte3 .ensures,
+      c .aui-bit2 .ensures,
+    )
 
 pub events-spec : {M : Type 1} → statement M
 events-spec =

@@ -3,8 +3,6 @@ use Rattle.changes.specs.Changes.{pending}
 use borrow.Author.Needs.{needs}
 use Rattle.changes.proofs.is_pending.Statement.{statement}
 use Rattle.changes.proofs.is_pending.Tie as tie
-use Rattle.changes.proofs.is_pending.Reads as reads
-use Rattle.changes.proofs.is_pending.Lts as lts
 
 array-read-result : tie.Need-array-read-result
 array-read-result c = search needs

@@ -1,8 +1,6 @@
 use Rattle.changes.specs.Changes.{keptBits}
 use Rattle.changes.proofs.keep_bits.Statement.{statement}
 use Rattle.changes.proofs.keep_bits.Tie as tie
-use Rattle.changes.proofs.keep_bits.Reads as reads
-use Rattle.changes.proofs.keep_bits.Lts as lts
 
 returns : tie.Need-returns
 unfolding keptBits

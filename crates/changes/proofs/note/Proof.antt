@@ -9,8 +9,6 @@ use mathlib.Core.Path.{_≡_, _∙_, refl}
 use Prim.Native.Nat.{_≤_, _-_}
 use Rattle.changes.proofs.note.Statement.{statement}
 use Rattle.changes.proofs.note.Tie as tie
-use Rattle.changes.proofs.note.Reads as reads
-use Rattle.changes.proofs.note.Lts as lts
 
 abbrev Inv-loop : tie.InvT-loop
 Inv-loop events out₀ i₀ out i = (i ≤ 8) × (out ≡ done (λ r n. bitOr n (getD events r 0)) i out₀)

@@ -4,8 +4,6 @@ use mathlib.Core.Path.{sym}
 use borrow.Author.Needs.{needs}
 use Rattle.changes.proofs.with_bits.Statement.{statement}
 use Rattle.changes.proofs.with_bits.Tie as tie
-use Rattle.changes.proofs.with_bits.Reads as reads
-use Rattle.changes.proofs.with_bits.Lts as lts
 
 array-write-out : tie.Need-array-write-out
 array-write-out c = search needs

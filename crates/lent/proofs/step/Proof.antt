@@ -1,6 +1,5 @@
 -- `lent::step` meets its contract: a walk of its code, by hand. The bytes go to `record::read_record`, and the record is passed on to `take` with the
--- request that they make.
--- The record and the bytes are lent for lifetimes of their own. Assumes nothing.
+-- request that they make. The record and the bytes are lent for lifetimes of their own. Assumes nothing.
 use mathlib.Core.Path.{_≡_, refl, _∙_, ap}
 use Prim.Native.Nat.{ℕ}
 use mathlib.Core.List.{[], _∷_, List}
@@ -37,10 +36,10 @@ use denote.Triple.Walked.{says, Stays, gave-ref, stay-dropped, walkOf, AllGo, go
 use denote.Exit.{yes}
 use Rattle.host.specs.declared.Host.{Host}
 use Rattle.host.proofs.Host as Hst
-use Rattle.himib.specs.declared.step.Chip.{Chip}
+use Rattle.chip.specs.declared.Chip.{Chip}
 use Rattle.himib.specs.Step.{stepOf}
-use Rattle.himib.proofs.step.Chip as Chp
-use Rattle.himib.proofs.step.Chip.Laws as Chp′
+use Rattle.chip.proofs.Chip as Chp
+use Rattle.chip.proofs.Chip.Laws as Chp′
 use Rattle.record.specs.declared.Record.{Record}
 use Rattle.record.specs.Refusals.{recordOf}
 use Rattle.record.proofs.Record as Rqs
@@ -49,7 +48,7 @@ use Rattle.record.proofs.read_record.Symbol as maker-def
 use Rattle.record.proofs.read_record.Symbol.{name as #maker}
 use Rattle.record.proofs.read_record.Met as maker-thm
 use Rattle.lent.specs.declared.Rest.{Rest}
-use Rattle.lent.specs.Lent.{together, served}
+use Rattle.lent.specs.Lent.{together, requested}
 use Rattle.lent.proofs.Rest as Rst
 use Rattle.lent.proofs.Walk.{chipVal, lentAt, requestFits, chipFits, restOwned, answered}
 use Rattle.lent.proofs.PassOn.{Take, passes-on}
@@ -67,8 +66,8 @@ bytesS = shrSliceOf (1 ∷ []) tt (plain (λ _. u8))
 abbrev stayed : Stays (f.ended .signature .params) (f.ended .kept)
 stayed = (gave-ref (0 ∷ []) tt (plain (λ _. Hst.the-row)), (stay-dropped (plain (λ _. Chp.the-row)) yes, (stay-dropped bytesS yes, tt)))
 
--- the request that the bytes make, served
-stepped : (c : Chip) (h : Host) (ys : List ℕ) → served (recordOf ys) c h ≡ stepOf c h ys
+-- the request that the bytes make
+stepped : (c : Chip) (h : Host) (ys : List ℕ) → requested (recordOf ys) c h ≡ stepOf c h ys
 unfolding stepOf
 stepped c h ys = refl
 
@@ -138,7 +137,7 @@ module _ {M : Type 1} (𝓤 : URA M) (H : Heap 𝓤) (A : Atoms 𝓤) (W : Given
         land ! (from ! (stop !)) (init ! 5 refl (requestFits W r v is)) $
         split ! $ keep ! (2 ∷ 3 ∷ 0 ∷ 4 ∷ 5 ∷ 6 ∷ 7 ∷ 8 ∷ 9 ∷ 10 ∷ 11 ∷ 12 ∷ 13 ∷ 14 ∷ 15 ∷ []) $
         passes-on 𝓤 H A W at-mem run κ q b o γ h c gc r v is C Λ fm known (sliceTy (tyRef (named 1) imm (tyInt w8))) s (‵ (flft κ′ q′)) Post l₀ l₁ l₂ l₃ l₄ l₅
-        (λ a w z ia e′. exits a w z ia (e′ ∙ ap (λ (r′ : Record). served r′ c h) e ∙ stepped c h ys))))))))))
+        (λ a w z ia e′. exits a w z ia (e′ ∙ ap (λ (r′ : Record). requested r′ c h) e ∙ stepped c h ys))))))))))
 
 module _ {M : Type 1} (𝓤 : URA M) (H : Heap 𝓤) (A : Atoms 𝓤) (W : Given 𝓤 H A) (at-mem : Memory → SProp 𝓤) (run : Routine → Fun 𝓤) where
   goes : AllGo 𝓤 H A W 2 (f.signature .params) (f.ended .kept) stayed

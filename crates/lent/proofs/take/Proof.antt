@@ -1,7 +1,6 @@
 -- `lent::take` meets its contract: a walk of its code, by hand. The borrow is opened, the record is read whole, `take_by_value` is called on it, the record
--- that it makes is
--- stored whole, and the borrow is closed at it. All that the proof knows of `take_by_value` is what it ensures, and no field of a record or a chip is named.
--- Assumes nothing.
+-- that it makes is stored whole, and the borrow is closed at it. All that the proof knows of `take_by_value` is what it ensures, and no field of a record
+-- or a chip is named. Assumes nothing.
 use mathlib.Core.Path.{_≡_, refl, ap}
 use Prim.Native.Nat.{ℕ}
 use mathlib.Core.List.{[], _∷_, List}
@@ -17,8 +16,10 @@ use prog.Wp.{Heap, Env, Calls, Loops, WpFn, Tables}
 use ghost.Atoms.{Atoms, sem}
 use contract.Monad.{Fun, fact}
 use contract.Running.{givenOf, tables, tablesOf}
-use types.Kit.{Given, Sq, runs, atRet, ‵, raw, _⊛_, _$_, _∵_, !, qed, by, move, keep, drop, use0, split, join, rewrite, fsplit, fsplit3, fjoin, fjoin3, feqI, suffices, frame, done}
-use types.Run.{look, look-raw, init, store-raw, forget, stop, hop, fld, from, load, of-opd, and-then, no-more, assigns, land, returns, enter, alloc1, alloc0, params1, pass1, pass0, free1, free0}
+use types.Kit.{Given, Sq, runs, atRet, ‵, raw, _⊛_, _$_, _∵_, !, qed, by, move, keep, drop, use0, split, join, rewrite}
+use types.Kit.{fsplit, fsplit3, fjoin, fjoin3, feqI, suffices, frame, done}
+use types.Run.{look, look-raw, init, store-raw, forget, stop, hop, fld, from, load, of-opd, and-then, no-more, assigns, land, returns}
+use types.Run.{enter, alloc1, alloc0, params1, pass1, pass0, free1, free0}
 use types.Part.{agg, whole, sub, look-in}
 use types.SemTy.{Body}
 use sound.WpLaws.{FmC, fmOf, WpFn-mono}
@@ -41,20 +42,21 @@ use denote.Exit.{yes}
 use Rattle.host.specs.declared.Host.{Host}
 use Rattle.host.proofs.Host as Hst
 use Rattle.host.proofs.Host.Laws as Hst′
-use Rattle.himib.specs.declared.step.Chip.{Chip}
-use Rattle.himib.specs.declared.step.Stepped.{Stepped}
-use Rattle.himib.proofs.step.Chip as Chp
-use Rattle.himib.proofs.step.Chip.Laws as Chp′
-use Rattle.himib.proofs.step.Stepped as Stp
-use Rattle.himib.proofs.step.Stepped.Laws as Stp′
+use Rattle.chip.specs.declared.Chip.{Chip}
+use Rattle.himib.specs.declared.Stepped.{Stepped}
+use Rattle.chip.proofs.Chip as Chp
+use Rattle.chip.proofs.Chip.Laws as Chp′
+use Rattle.himib.proofs.Stepped as Stp
+use Rattle.himib.proofs.Stepped.Laws as Stp′
 use Rattle.record.specs.declared.Record.{Record}
 use Rattle.record.proofs.Record as Rqs
 use Rattle.record.proofs.Record.Laws as Rqs′
 use Rattle.lent.specs.declared.Rest.{Rest}
-use Rattle.lent.specs.Lent.{served}
+use Rattle.lent.specs.Lent.{requested}
 use Rattle.lent.proofs.Rest as Rst
 use Rattle.lent.proofs.Rest.Laws as Rst′
-use Rattle.lent.proofs.Walk.{hostVal, chipVal, requestVal, restVal, hostTy, chipTy, requestTy, restTy, givenTy, lentAt, hostFits, chipFits, requestFits, restFits, hostOwned, chipOwned, requestOwned, restOwned, answered}
+use Rattle.lent.proofs.Walk.{hostVal, chipVal, requestVal, restVal, hostTy, chipTy, requestTy, restTy, givenTy, lentAt}
+use Rattle.lent.proofs.Walk.{hostFits, chipFits, requestFits, restFits, hostOwned, chipOwned, requestOwned, restOwned, answered}
 use Rattle.lent.proofs.take_by_value as g
 use Rattle.lent.proofs.take_by_value.Symbol as g-def
 use Rattle.lent.proofs.take_by_value.Symbol.{name as #g}
@@ -88,8 +90,8 @@ module _ {M : Type 1} (𝓤 : URA M) (H : Heap 𝓤) (A : Atoms 𝓤) (at-mem : 
   abbrev Ensured : Host → Chip → Record → Stepped → SProp 𝓤
   Ensured h c r s = ensured 𝓤 H A g.ended (g.clauses 𝓤 H A at-mem run) tt (h, (c, (r, tt))) tt s
 
-  said : (h : Host) (c : Chip) (r : Record) (s : Stepped) → ent 𝓤 (Ensured h c r s) (fact 𝓤 (s ≡ served r c h))
-  said h c r s = exE 𝓤 _ (λ ws. snd∗ 𝓤 (sem 𝓤 H A (lasts g.ended tt (h, (c, (r, tt))) ws)) (fact 𝓤 (s ≡ served r c h)))
+  said : (h : Host) (c : Chip) (r : Record) (s : Stepped) → ent 𝓤 (Ensured h c r s) (fact 𝓤 (s ≡ requested r c h))
+  said h c r s = exE 𝓤 _ (λ ws. snd∗ 𝓤 (sem 𝓤 H A (lasts g.ended tt (h, (c, (r, tt))) ws)) (fact 𝓤 (s ≡ requested r c h)))
 
 module _ {M : Type 1} (𝓤 : URA M) (H : Heap 𝓤) (A : Atoms 𝓤) (W : Given 𝓤 H A) (at-mem : Memory → SProp 𝓤) (run : Routine → Fun 𝓤)
     (κ : Lft) (q : Share) (b o : ℕ) (γ : GName) (h : Host) (c : Chip) (gc : Is Chp.the-row c (chipVal c ∷ [])) (r : Record)
@@ -103,7 +105,7 @@ module _ {M : Type 1} (𝓤 : URA M) (H : Heap 𝓤) (A : Atoms 𝓤) (W : Given
   abbrev Post : Val → SProp 𝓤
   Post = walkOf 𝓤 H A f.ended stayed (f.clauses 𝓤 H A at-mem run) .post (((κ, tt), (q, tt), tt, x, at), tt)
 
-  exits : (s : Stepped) → s ≡ served r c h → Is Rst.the-row (rest s) (restVal (rest s) ∷ [])
+  exits : (s : Stepped) → s ≡ requested r c h → Is Rst.the-row (rest s) (restVal (rest s) ∷ [])
       → ent 𝓤 (sep 𝓤 (A .obs γ (Hst.the-row .coded .code (s .host))) (sep 𝓤 (A .bor κ (Body (mem Hst.the-row) b o γ)) (A .lft κ q))) (Post (restVal (rest s)))
   exits s e is =
       qed W (‵ (fobs γ (Hst.the-row .coded .code (s .host))) ∷ ‵ (fbor κ (Body (mem Hst.the-row) b o γ)) ∷ ‵ (flft κ q) ∷ []) ∵
@@ -128,7 +130,7 @@ module _ {M : Type 1} (𝓤 : URA M) (H : Heap 𝓤) (A : Atoms 𝓤) (W : Given
       abbrev En : Env 𝓤 H
       En = (restTy, l₀) ∷ (givenTy, l₁) ∷ (chipTy, l₂) ∷ (requestTy, l₃) ∷ (hostTy, l₄) ∷ (Stp′.mir, l₅) ∷ []
 
-      puts-back : (s : Stepped) → s ≡ served r c h → Is Rst.the-row (rest s) (restVal (rest s) ∷ []) → Is Hst.the-row (s .host) (hostVal (s .host) ∷ [])
+      puts-back : (s : Stepped) → s ≡ requested r c h → Is Rst.the-row (rest s) (restVal (rest s) ∷ []) → Is Hst.the-row (s .host) (hostVal (s .host) ∷ [])
           → Sq W
           (‵ (cellAt fullShare (Hst.the-row .mir) (hostVal h ∷ []) b o) ∷ ‵ (Hst.the-row .own h (hostVal h ∷ [])) ∷ ‵
           (fobor κ q (Body (mem Hst.the-row) b o γ))
@@ -171,7 +173,7 @@ module _ {M : Type 1} (𝓤 : URA M) (H : Heap 𝓤) (A : Atoms 𝓤) (W : Given
         calls-at ! fm (G 𝓤 H A at-mem run) known to-g
         (and-then ! (load ! (from ! (stop !)) (look ! 8 refl))
         (and-then ! (load ! (from ! (stop !)) (look ! 12 refl)) (and-then ! (load ! (from ! (stop !)) (look ! 10 refl)) (no-more !)))) (λ v.
-        answered W (‵ ftrue) Stp.the-row (Ensured 𝓤 H A at-mem run h c r) (λ s. s ≡ served r c h) (said 𝓤 H A at-mem run h c r) v tt ! (λ s e is. drop ! $
+        answered W (‵ ftrue) Stp.the-row (Ensured 𝓤 H A at-mem run h c r) (λ s. s ≡ requested r c h) (said 𝓤 H A at-mem run h c r) v tt ! (λ s e is. drop ! $
         land ! (from ! (stop !)) (init ! 5 refl (LL.lawful Stp.the-type Stp′.the-laws 𝓤 H A W .typed s _ is .0)) $
         rewrite ! 5 (λ (u : Val). ‵ (fat fullShare Stp′.mir l₅ 0 u)) (ap only (LL.tells Stp.the-type Stp′.the-laws s _ is)) refl $
         puts-back l₀ l₁ l₂ l₃ l₄ l₅ s e (rest-is s is) (host-is s is)))))))))))

@@ -1,11 +1,8 @@
 use borrow.Author.Tests.{ne-eqb}
-use Rattle.management.specs.Commands.{commandOf}
+use Rattle.management.specs.Commands.{commandOf, rowOf}
 use borrow.Author.Needs.{needs}
 use Rattle.management.proofs.decode.Statement.{statement}
 use Rattle.management.proofs.decode.Tie as tie
-use Rattle.management.proofs.decode.Reads as reads
-use Rattle.management.proofs.decode.Lts as lts
-use Rattle.management.proofs.decode_row.Reads as decode-row-reads
 
 decode-row-requires : tie.Need-decode-row-requires
 decode-row-requires c κs = search needs
@@ -63,8 +60,24 @@ unfolding commandOf
 returns-13 c = rw (c .match .keys13)
 
 returns-14 : tie.Need-returns-14
-unfolding commandOf
-returns-14 c = let r = c .before .match .rest in simp (ne-eqb _ _ (r .1), ne-eqb _ _ (r .0 .1), ne-eqb _ _ (r .0 .0 .1), ne-eqb _ _ (r .0 .0 .0 .1), ne-eqb _ _ (r .0 .0 .0 .0 .1), ne-eqb _ _ (r .0 .0 .0 .0 .0 .1), ne-eqb _ _ (r .0 .0 .0 .0 .0 .0 .1), ne-eqb _ _ (r .0 .0 .0 .0 .0 .0 .0 .1), ne-eqb _ _ (r .0 .0 .0 .0 .0 .0 .0 .0 .1), ne-eqb _ _ (r .0 .0 .0 .0 .0 .0 .0 .0 .0 .1), ne-eqb _ _ (r .0 .0 .0 .0 .0 .0 .0 .0 .0 .0 .1), ne-eqb _ _ (r .0 .0 .0 .0 .0 .0 .0 .0 .0 .0 .0 .1), ne-eqb _ _ (r .0 .0 .0 .0 .0 .0 .0 .0 .0 .0 .0 .0 .1)) (c .decode-row .ensures)
+unfolding commandOf rowOf
+returns-14 c =
+    let r = c .before .match .rest in simp (
+      ne-eqb _ _ (r .1),
+      ne-eqb _ _ (r .0 .1),
+      ne-eqb _ _ (r .0 .0 .1),
+      ne-eqb _ _ (r .0 .0 .0 .1),
+      ne-eqb _ _ (r .0 .0 .0 .0 .1),
+      ne-eqb _ _ (r .0 .0 .0 .0 .0 .1),
+      ne-eqb _ _ (r .0 .0 .0 .0 .0 .0 .1),
+      ne-eqb _ _ (r .0 .0 .0 .0 .0 .0 .0 .1),
+      ne-eqb _ _ (r .0 .0 .0 .0 .0 .0 .0 .0 .1),
+      ne-eqb _ _ (r .0 .0 .0 .0 .0 .0 .0 .0 .0 .1),
+      ne-eqb _ _ (r .0 .0 .0 .0 .0 .0 .0 .0 .0 .0 .1),
+      ne-eqb _ _ (r .0 .0 .0 .0 .0 .0 .0 .0 .0 .0 .0 .1),
+      ne-eqb _ _ (r .0 .0 .0 .0 .0 .0 .0 .0 .0 .0 .0 .0 .1),
+    )
+    (c .decode-row .ensures)
 
 pub decode-spec : {M : Type 1} → statement M
 decode-spec =

@@ -2,8 +2,6 @@ use Rattle.management.proofs.CommandLaws.{row-disable, row-enable, row-
 use native.Mathlib.Omega.{arith}
 use Rattle.management.proofs.decode_row.Statement.{statement}
 use Rattle.management.proofs.decode_row.Tie as tie
-use Rattle.management.proofs.decode_row.Reads as reads
-use Rattle.management.proofs.decode_row.Lts as lts
 
 returns : tie.Need-returns
 returns c = row-disable _ (omega arith) (omega arith)

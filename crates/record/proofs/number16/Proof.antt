@@ -1,42 +1,26 @@
 -- `record::number16` meets its contract. Assumes nothing.
+use mathlib.Core.Path.{ap, _∙_}
 use borrow.Author.Needs.{needs}
-use Rattle.record.proofs.Numbers.{two}
+use Rattle.spelling.specs.Spelling.{spelt}
+use Rattle.record.proofs.Numbers.{two-from}
 use Rattle.record.proofs.number16.Statement.{statement}
 use Rattle.record.proofs.number16.Tie as tie
 
-shared-slice-read-wide16 : tie.Need-shared-slice-read-wide16
-shared-slice-read-wide16 c = search needs
+shared-slice-read-two : tie.Need-shared-slice-read-two
+shared-slice-read-two c = search needs
 
-wide16-requires : tie.Need-wide16-requires
-wide16-requires c κs = search needs
+add-two : tie.Need-add-two
+add-two c = search needs
 
-add-wide16 : tie.Need-add-wide16
-add-wide16 c = search needs
+shared-slice-read-two-2 : tie.Need-shared-slice-read-two-2
+shared-slice-read-two-2 c = search needs
 
-shared-slice-read-wide16-2 : tie.Need-shared-slice-read-wide16-2
-shared-slice-read-wide16-2 c = search needs
-
-wide16-requires-2 : tie.Need-wide16-requires-2
-wide16-requires-2 c κs = search needs
-
-mul-result : tie.Need-mul-result
-mul-result c = search needs
-
-add-result : tie.Need-add-result
-add-result c = search needs
+two-requires : tie.Need-two-requires
+two-requires c κs = search needs
 
 returns : tie.Need-returns
-returns c = rw (c .before .before .wide16 .ensures .0, c .wide162 .ensures .0) (two _ _)
+returns c = c .two .ensures ∙ ap spelt (two-from _ _)
 
 pub number16-spec : {M : Type 1} → statement M
 number16-spec =
-    tie.close
-    (tie.spec
-    shared-slice-read-wide16
-    wide16-requires
-    add-wide16
-    shared-slice-read-wide16-2
-    wide16-requires-2
-    mul-result
-    add-result
-    returns)
+    tie.close (tie.spec shared-slice-read-two add-two shared-slice-read-two-2 two-requires returns)

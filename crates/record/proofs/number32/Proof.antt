@@ -1,90 +1,48 @@
 -- `record::number32` meets its contract. Assumes nothing.
+use mathlib.Core.Path.{ap, _∙_}
 use borrow.Author.Needs.{needs}
-use Rattle.record.proofs.Numbers.{four}
+use Rattle.spelling.specs.Spelling.{spelt}
+use Rattle.record.proofs.Numbers.{four-from}
 use Rattle.record.proofs.number32.Statement.{statement}
 use Rattle.record.proofs.number32.Tie as tie
 
-shared-slice-read-wide32 : tie.Need-shared-slice-read-wide32
-shared-slice-read-wide32 c = search needs
+shared-slice-read-four : tie.Need-shared-slice-read-four
+shared-slice-read-four c = search needs
 
-wide32-requires : tie.Need-wide32-requires
-wide32-requires c κs = search needs
+add-four : tie.Need-add-four
+add-four c = search needs
 
-add-wide32 : tie.Need-add-wide32
-add-wide32 c = search needs
+shared-slice-read-four-2 : tie.Need-shared-slice-read-four-2
+shared-slice-read-four-2 c = search needs
 
-shared-slice-read-wide32-2 : tie.Need-shared-slice-read-wide32-2
-shared-slice-read-wide32-2 c = search needs
+add-four-2 : tie.Need-add-four-2
+add-four-2 c = search needs
 
-wide32-requires-2 : tie.Need-wide32-requires-2
-wide32-requires-2 c κs = search needs
+shared-slice-read-four-3 : tie.Need-shared-slice-read-four-3
+shared-slice-read-four-3 c = search needs
 
-add-wide32-2 : tie.Need-add-wide32-2
-add-wide32-2 c = search needs
+add-four-3 : tie.Need-add-four-3
+add-four-3 c = search needs
 
-shared-slice-read-wide32-3 : tie.Need-shared-slice-read-wide32-3
-shared-slice-read-wide32-3 c = search needs
+shared-slice-read-four-4 : tie.Need-shared-slice-read-four-4
+shared-slice-read-four-4 c = search needs
 
-wide32-requires-3 : tie.Need-wide32-requires-3
-wide32-requires-3 c κs = search needs
-
-add-wide32-3 : tie.Need-add-wide32-3
-add-wide32-3 c = search needs
-
-shared-slice-read-wide32-4 : tie.Need-shared-slice-read-wide32-4
-shared-slice-read-wide32-4 c = search needs
-
-wide32-requires-4 : tie.Need-wide32-requires-4
-wide32-requires-4 c κs = search needs
-
-mul-result : tie.Need-mul-result
-mul-result c = search needs
-
-add-result : tie.Need-add-result
-add-result c = search needs
-
-mul-result-2 : tie.Need-mul-result-2
-mul-result-2 c = search needs
-
-add-result-2 : tie.Need-add-result-2
-add-result-2 c = search needs
-
-mul-result-3 : tie.Need-mul-result-3
-mul-result-3 c = search needs
-
-add-result-3 : tie.Need-add-result-3
-add-result-3 c = search needs
+four-requires : tie.Need-four-requires
+four-requires c κs = search needs
 
 returns : tie.Need-returns
-returns c =
-    let b = c .before .before in
-    rw (
-      b .before .before .before .before .wide32 .ensures .0,
-      b .before .before .wide322 .ensures .0,
-      b .wide323 .ensures .0,
-      c .wide324 .ensures .0,
-    )
-    (four _ _)
+returns c = c .four .ensures ∙ ap spelt (four-from _ _)
 
 pub number32-spec : {M : Type 1} → statement M
 number32-spec =
     tie.close
     (tie.spec
-    shared-slice-read-wide32
-    wide32-requires
-    add-wide32
-    shared-slice-read-wide32-2
-    wide32-requires-2
-    add-wide32-2
-    shared-slice-read-wide32-3
-    wide32-requires-3
-    add-wide32-3
-    shared-slice-read-wide32-4
-    wide32-requires-4
-    mul-result
-    add-result
-    mul-result-2
-    add-result-2
-    mul-result-3
-    add-result-3
+    shared-slice-read-four
+    add-four
+    shared-slice-read-four-2
+    add-four-2
+    shared-slice-read-four-3
+    add-four-3
+    shared-slice-read-four-4
+    four-requires
     returns)

@@ -16,7 +16,7 @@ returns c =
     let stray = c .before .before in
     let start = stray .before .before in
     c .refused .ensures
-    ∙ rw (sym (stray .stray-write .ensures) ∙ c .before .if1 .taken) at (d-write (start .args .s .now) (start .pre .0) (start .pre .1))
+    ∙ rw (sym (stray .stray-write .ensures) ∙ c .before .if1 .taken) at (d-write (start .args .bytes .now) (start .pre .0) (start .pre .1))
 
 shared-slice-read-t4 : tie.Need-shared-slice-read-t4
 shared-slice-read-t4 c = search needs
@@ -29,7 +29,7 @@ returns-2 c =
     let stray = c .before .before .before in
     let start = stray .before .before in
     c .accepted .ensures
-    ∙ rw (sym (stray .stray-write .ensures) ∙ c .before .before .if1 .left) at (d-write (start .args .s .now) (start .pre .0) (start .pre .1))
+    ∙ rw (sym (stray .stray-write .ensures) ∙ c .before .before .if1 .left) at (d-write (start .args .bytes .now) (start .pre .0) (start .pre .1))
 
 pub read-d-write-spec : {M : Type 1} → statement M
 read-d-write-spec =

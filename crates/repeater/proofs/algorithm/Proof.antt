@@ -1,8 +1,6 @@
 use borrow.Author.Tests.{eq-eqb, ne-eqb}
 use Rattle.repeater.proofs.algorithm.Statement.{statement}
 use Rattle.repeater.proofs.algorithm.Tie as tie
-use Rattle.repeater.proofs.algorithm.Reads as reads
-use Rattle.repeater.proofs.algorithm.Lts as lts
 
 returns : tie.Need-returns
 returns c = simp (eq-eqb _ _ (c .if1 .taken))

@@ -4,10 +4,6 @@ use Rattle.repeater.specs.declared.Those.{Those}
 use borrow.Author.Needs.{needs}
 use Rattle.repeater.proofs.is_among.Statement.{statement}
 use Rattle.repeater.proofs.is_among.Tie as tie
-use Rattle.repeater.proofs.is_among.Reads as reads
-use Rattle.repeater.proofs.is_among.Lts as lts
-use Rattle.repeater.proofs.is_listening.Reads as is-listening-reads
-use Rattle.repeater.proofs.is_transmitting.Reads as is-transmitting-reads
 
 enum-told : tie.Need-enum-told
 enum-told c = search needs
@@ -32,11 +28,15 @@ enum-told-5 c = search needs
 
 returns : tie.Need-returns
 unfolding among
-returns c = c .is-transmitting .ensures ∙ sym (ap (λ (k : Those). among k (c .before .before .before .args .i) (c .before .before .before .args .p)) (c .before .enum-told .given .1))
+returns c =
+    let a = c .before .before .before .args in
+    c .is-transmitting .ensures ∙ sym (ap (λ (k : Those). among k (a .i) (a .p)) (c .before .enum-told .given .1))
 
 returns-2 : tie.Need-returns-2
 unfolding among
-returns-2 c = c .is-listening .ensures ∙ sym (ap (λ (k : Those). among k (c .before .before .before .args .i) (c .before .before .before .args .p)) (c .before .enum-told2 .given .1))
+returns-2 c =
+    let a = c .before .before .before .args in
+    c .is-listening .ensures ∙ sym (ap (λ (k : Those). among k (a .i) (a .p)) (c .before .enum-told2 .given .1))
 
 returns-3 : tie.Need-returns-3
 unfolding among

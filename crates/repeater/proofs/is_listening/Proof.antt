@@ -2,9 +2,6 @@ use Rattle.repeater.specs.Hearing.{listens}
 use borrow.Author.Needs.{needs}
 use Rattle.repeater.proofs.is_listening.Statement.{statement}
 use Rattle.repeater.proofs.is_listening.Tie as tie
-use Rattle.repeater.proofs.is_listening.Reads as reads
-use Rattle.repeater.proofs.is_listening.Lts as lts
-use Rattle.repeater.proofs.is_transmitting.Reads as is-transmitting-reads
 
 is-transmitting-requires : tie.Need-is-transmitting-requires
 is-transmitting-requires c κs = search needs

@@ -2,8 +2,6 @@ use mathlib.Core.Path.{refl}
 use Rattle.repeater.specs.Hearing.{transmits}
 use Rattle.repeater.proofs.is_transmitting.Statement.{statement}
 use Rattle.repeater.proofs.is_transmitting.Tie as tie
-use Rattle.repeater.proofs.is_transmitting.Reads as reads
-use Rattle.repeater.proofs.is_transmitting.Lts as lts
 
 returns : tie.Need-returns
 unfolding transmits

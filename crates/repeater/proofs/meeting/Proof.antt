@@ -1,9 +1,6 @@
 use borrow.Author.Needs.{needs}
 use Rattle.repeater.proofs.meeting.Statement.{statement}
 use Rattle.repeater.proofs.meeting.Tie as tie
-use Rattle.repeater.proofs.meeting.Reads as reads
-use Rattle.repeater.proofs.meeting.Lts as lts
-use Rattle.ports.proofs.contains.Reads as contains-reads
 
 contains-requires : tie.Need-contains-requires
 contains-requires c κs = search needs

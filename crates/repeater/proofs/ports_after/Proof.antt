@@ -1,4 +1,6 @@
 use Rattle.repeater.proofs.MeetingLaws.{port-made}
+use Rattle.ports.specs.Sets.{setOf}
+use Rattle.burst.specs.Clean.{cleanAt}
 use Rattle.repeater.specs.Repeater.{portAfter}
 use Rattle.ports.proofs.Each.{done-none, done-more, done-all}
 use Rattle.ports.specs.Each.{done}
@@ -8,20 +10,13 @@ use mathlib.Core.Path.{_≡_, _∙_}
 use Prim.Native.Nat.{_≤_, _-_}
 use Rattle.repeater.proofs.ports_after.Statement.{statement}
 use Rattle.repeater.proofs.ports_after.Tie as tie
-use Rattle.repeater.proofs.ports_after.Reads as reads
-use Rattle.repeater.proofs.ports_after.Lts as lts
-use Rattle.burst.proofs.Effect.clean.Reads as clean-reads
-use Rattle.burst.proofs.Effect.reconnecting.Reads as reconnecting-reads
-use Rattle.repeater.proofs.algorithm.Reads as algorithm-reads
-use Rattle.repeater.proofs.meet_at.Reads as meet-at-reads
-use Rattle.repeater.proofs.meeting.Reads as meeting-reads
-use Rattle.repeater.proofs.revive_at.Reads as revive-at-reads
 
 abbrev Inv-loop : tie.InvT-loop
-Inv-loop aui tp g f b clean back-aui back-tp out₀ i₀ out i = (i ≤ 9) × (out ≡ done (portAfter aui tp g f b) i out₀)
+Inv-loop forAui forTp hearing effect activity clean back-aui back-tp out₀ i₀ out i =
+    (i ≤ 9) × (out ≡ done (portAfter forAui forTp hearing effect activity (setOf (cleanAt hearing effect))) i out₀)
 
 abbrev μ-loop : tie.MeasureT-loop
-μ-loop aui tp g f b clean back-aui back-tp out₀ i₀ out i = 9 - i
+μ-loop forAui forTp hearing effect activity clean back-aui back-tp out₀ i₀ out i = 9 - i
 
 clean-requires : tie.Need-clean-requires Inv-loop μ-loop
 clean-requires c κs = search needs
@@ -72,7 +67,7 @@ loop-again c =
     let a = s .before .before .before .args in (
       omega arith,
       done-more _ _ _ _ _ _ (l .loop .inv .1)
-          (port-made (a .aui) (a .tp) (a .g) (a .f) (a .b) _ _ _ _ _ _ _ _ _ (omega arith)
+          (port-made (a .for-aui) (a .for-tp) (a .hearing) (a .effect) (a .activity) _ _ _ _ _ _ _ _ _ (omega arith)
           (s .before .before .clean .ensures) (s .before .reconnecting .ensures) (s .reconnecting2 .ensures)
           (c .before .before .before .algorithm .ensures) (c .before .before .meeting .ensures) (c .before .meet-at .ensures) (c .revive-at .ensures)),
     )

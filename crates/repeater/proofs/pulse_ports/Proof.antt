@@ -7,9 +7,6 @@ use mathlib.Core.Path.{_≡_, _∙_}
 use Prim.Native.Nat.{_≤_, _-_}
 use Rattle.repeater.proofs.pulse_ports.Statement.{statement}
 use Rattle.repeater.proofs.pulse_ports.Tie as tie
-use Rattle.repeater.proofs.pulse_ports.Reads as reads
-use Rattle.repeater.proofs.pulse_ports.Lts as lts
-use Rattle.repeater.proofs.pulse_at.Reads as pulse-at-reads
 
 abbrev Inv-loop : tie.InvT-loop
 Inv-loop mask out₀ i₀ out i = (i ≤ 9) × (out ≡ done (pulsedAt mask) i out₀)

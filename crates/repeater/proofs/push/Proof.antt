@@ -2,8 +2,6 @@ use native.Mathlib.Omega.{arith}
 use borrow.Author.Needs.{needs}
 use Rattle.repeater.proofs.push.Statement.{statement}
 use Rattle.repeater.proofs.push.Tie as tie
-use Rattle.repeater.proofs.push.Reads as reads
-use Rattle.repeater.proofs.push.Lts as lts
 
 mul-result : tie.Need-mul-result
 mul-result c = search needs

@@ -3,9 +3,6 @@ use borrow.Author.Tests.{le-ltb, lt-ltb}
 use borrow.Author.Needs.{needs}
 use Rattle.repeater.proofs.tick_at.Statement.{statement}
 use Rattle.repeater.proofs.tick_at.Tie as tie
-use Rattle.repeater.proofs.tick_at.Reads as reads
-use Rattle.repeater.proofs.tick_at.Lts as lts
-use Rattle.port.proofs.Port.tick.Reads as tick-reads
 
 tick-requires : tie.Need-tick-requires
 tick-requires c κs = search needs

@@ -7,9 +7,6 @@ use mathlib.Core.Path.{_≡_, _∙_}
 use Prim.Native.Nat.{_≤_, _-_}
 use Rattle.repeater.proofs.tick_ports.Statement.{statement}
 use Rattle.repeater.proofs.tick_ports.Tie as tie
-use Rattle.repeater.proofs.tick_ports.Reads as reads
-use Rattle.repeater.proofs.tick_ports.Lts as lts
-use Rattle.repeater.proofs.tick_at.Reads as tick-at-reads
 
 abbrev Inv-loop : tie.InvT-loop
 Inv-loop out₀ i₀ out i = (i ≤ 9) × (out ≡ done tickedAt i out₀)

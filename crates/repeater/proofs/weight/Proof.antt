@@ -1,8 +1,6 @@
 use native.Mathlib.Omega.{arith}
 use Rattle.repeater.proofs.weight.Statement.{statement}
 use Rattle.repeater.proofs.weight.Tie as tie
-use Rattle.repeater.proofs.weight.Reads as reads
-use Rattle.repeater.proofs.weight.Lts as lts
 
 returns : tie.Need-returns
 returns c = (rw (c .if1 .taken) (omega arith), omega arith)

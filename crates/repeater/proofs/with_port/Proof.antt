@@ -4,8 +4,6 @@ use mathlib.Core.Path.{sym}
 use borrow.Author.Needs.{needs}
 use Rattle.repeater.proofs.with_port.Statement.{statement}
 use Rattle.repeater.proofs.with_port.Tie as tie
-use Rattle.repeater.proofs.with_port.Reads as reads
-use Rattle.repeater.proofs.with_port.Lts as lts
 
 mul-out : tie.Need-mul-out
 mul-out c = search needs

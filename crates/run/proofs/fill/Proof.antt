@@ -4,10 +4,6 @@ use borrow.Rule.Slice.PartMut.{take-put}
 use borrow.Author.Needs.{needs}
 use Rattle.run.proofs.fill.Statement.{statement}
 use Rattle.run.proofs.fill.Tie as tie
-use Rattle.run.proofs.fill.Reads as reads
-use Rattle.run.proofs.fill.Lts as lts
-use Rattle.io.proofs.count.Reads as count-reads
-use Rattle.libc.proofs.read.Reads as read-reads
 
 sub-rest : tie.Need-sub-rest
 sub-rest c = search needs

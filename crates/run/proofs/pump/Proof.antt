@@ -1,15 +1,14 @@
 use borrow.Author.Needs.{needs}
+use Rattle.record.specs.Record.{recordLength}
+use Rattle.run.specs.Kept.{bufferLength}
 use lib.ListN.{length}
 use mathlib.Core.Path.{_≡_}
 use Prim.Native.Nat.{_<_}
 use Rattle.run.proofs.pump.Statement.{statement}
 use Rattle.run.proofs.pump.Tie as tie
-use Rattle.run.proofs.pump.Reads as reads
-use Rattle.run.proofs.pump.Lts as lts
-use Rattle.run.proofs.one_turn.Reads as one-turn-reads
 
 abbrev Inv-loop : tie.InvT-loop
-Inv-loop buf₀ out₀ turns₀ s₀ have₀ going₀ buf out turns s have going = (have < 32) × (length buf ≡ 65536) × (length out ≡ 65536)
+Inv-loop buf₀ out₀ turns₀ s₀ have₀ going₀ buf out turns s have going = (have < recordLength) × (length buf ≡ bufferLength) × (length out ≡ bufferLength)
 
 abbrev μ-loop : tie.MeasureT-loop
 μ-loop buf₀ out₀ turns₀ s₀ have₀ going₀ buf out turns s have going = turns

@@ -6,8 +6,6 @@ use native.Mathlib.Omega.{arith}
 use Prim.Native.Nat.{_+_, _≤_, _<_, _-_}
 use Rattle.run.proofs.shift.Statement.{statement}
 use Rattle.run.proofs.shift.Tie as tie
-use Rattle.run.proofs.shift.Reads as reads
-use Rattle.run.proofs.shift.Lts as lts
 
 abbrev Inv-loop : tie.InvT-loop
 Inv-loop buf₀ at n i₀ buf i = (i ≤ n) × (length buf ≡ length buf₀) × (take i buf ≡ take i (drop at buf₀)) × (drop i buf ≡ drop i buf₀)

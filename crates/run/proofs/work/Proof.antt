@@ -3,10 +3,6 @@ use Rattle.run.proofs.Leaving.{nothing-lost}
 use borrow.Author.Needs.{needs}
 use Rattle.run.proofs.work.Statement.{statement}
 use Rattle.run.proofs.work.Tie as tie
-use Rattle.run.proofs.work.Reads as reads
-use Rattle.run.proofs.work.Lts as lts
-use Rattle.block.proofs.answer_block.Reads as answer-block-reads
-use Rattle.run.proofs.shift.Reads as shift-reads
 
 sub-answer-block : tie.Need-sub-answer-block
 sub-answer-block c = search needs
@@ -37,7 +33,8 @@ returns c =
     let b = c .before .before .before .before .before .before .before .before .before in
     let s = b .before .before .before .before .before .before .before .before .before .before in
     let a = s .args in
-    nothing-lost (a .state) (a .buf .now) (a .out .now) _ _ (a .total) (b .answer-block .result .at) _ (search needs) (search needs) refl (b .answer-block .ensures) (c .before .before .shift .ensures)
+    nothing-lost (a .state) (a .buf .now) (a .out .now) _ _ (a .total) (b .answer-block .result .at) _ (search needs) (search needs) refl
+    (b .answer-block .ensures) (c .before .before .shift .ensures)
 
 pub work-spec : {M : Type 1} → statement M
 work-spec =

@@ -1,34 +1,45 @@
-use Rattle.attributes.specs.Credits.{noAttributes}
-use Rattle.start.specs.Start.{attributesIn, nineIn}
-use Rattle.ports.proofs.Each.{done-none, done-more, done-all}
-use Rattle.ports.specs.Each.{done}
+use Prim.Native.Nat.{ℕ, suc, _≤_, _-_, _+_, _*_}
+use mathlib.Core.Path.{_≡_, ap, _∙_}
+use mathlib.Core.List.{List}
 use borrow.Author.Needs.{needs}
 use native.Mathlib.Omega.{arith}
-use mathlib.Core.Path.{_≡_, _∙_}
-use Prim.Native.Nat.{_≤_, _-_}
+use Rattle.ports.specs.Sets.{portCount}
+use Rattle.attributes.specs.declared.Attributes.{Attributes}
+use Rattle.attributes.specs.declared.Nine.{Nine}
+use Rattle.attributes.specs.Nine.{nothingCounted, withPort}
+use Rattle.start.specs.Start.{portSize, portFrom, nineUpTo}
 use Rattle.start.proofs.nine_in.Statement.{statement}
 use Rattle.start.proofs.nine_in.Tie as tie
-use Rattle.start.proofs.nine_in.Reads as reads
-use Rattle.start.proofs.nine_in.Lts as lts
-use Rattle.start.proofs.attributes_in.Reads as attributes-in-reads
+
+module _ (s : List ℕ) (nine : Nine) where
+  none-yet : nine ≡ nothingCounted → nine ≡ nineUpTo s 0
+  unfolding nineUpTo
+  none-yet e = e
+
+  one-more : (i : ℕ) (port : Attributes) → nine ≡ nineUpTo s i → port ≡ portFrom s (portSize * i) → withPort nine i port ≡ nineUpTo s (i + 1)
+  unfolding nineUpTo
+  one-more i port e f = let k : i + 1 ≡ suc i = omega arith in rw (k, e, f)
 
 abbrev Inv-loop : tie.InvT-loop
-Inv-loop s out₀ i₀ out i = (i ≤ 9) × (out ≡ done (λ k x. attributesIn s k) i out₀)
+Inv-loop s nine₀ i₀ nine i = (i ≤ portCount) × (nine ≡ nineUpTo s i)
 
 abbrev μ-loop : tie.MeasureT-loop
-μ-loop s out₀ i₀ out i = 9 - i
+μ-loop s nine₀ i₀ nine i = portCount - i
+
+zero-requires : tie.Need-zero-requires Inv-loop μ-loop
+zero-requires c κs = search needs
 
 loop-holds : tie.Need-loop-holds Inv-loop μ-loop
-loop-holds c = (search needs, done-none _ _)
+loop-holds c = (search needs, none-yet _ _ (c .zero .ensures))
 
-attributes-in-requires : tie.Need-attributes-in-requires Inv-loop μ-loop
-attributes-in-requires c κs = search needs
+mul-port-from : tie.Need-mul-port-from Inv-loop μ-loop
+mul-port-from c = search needs
 
-mul-out : tie.Need-mul-out Inv-loop μ-loop
-mul-out c = search needs
+port-from-requires : tie.Need-port-from-requires Inv-loop μ-loop
+port-from-requires c κs = search needs
 
-array-set-from-out : tie.Need-array-set-from-out Inv-loop μ-loop
-array-set-from-out c = search needs
+with-port-requires : tie.Need-with-port-requires Inv-loop μ-loop
+with-port-requires c κs = search needs
 
 add-i : tie.Need-add-i Inv-loop μ-loop
 add-i c = search needs
@@ -37,11 +48,10 @@ loop-less : tie.Need-loop-less Inv-loop μ-loop
 loop-less c = search needs
 
 loop-again : tie.Need-loop-again Inv-loop μ-loop
-loop-again c = let l = c .before .before .loop in (omega arith, done-more _ _ _ _ noAttributes _ (l .inv .1) (c .attributes-in .ensures))
+loop-again c = let l = c .before .before .before .loop in (omega arith, c .with-port .ensures ∙ one-more _ _ _ _ (l .inv .1) (c .before .port-from .ensures))
 
 returns : tie.Need-returns Inv-loop μ-loop
-unfolding nineIn
-returns c = c .before .loop .inv .1 ∙ done-all _ _ _ (omega arith)
+returns c = let all : c .before .loop .i ≡ portCount = omega arith in c .before .loop .inv .1 ∙ ap (nineUpTo _) all
 
 pub nine-in-spec : {M : Type 1} → statement M
 nine-in-spec =
@@ -49,10 +59,11 @@ nine-in-spec =
     (tie.spec
     Inv-loop
     μ-loop
+    zero-requires
     loop-holds
-    attributes-in-requires
-    mul-out
-    array-set-from-out
+    mul-port-from
+    port-from-requires
+    with-port-requires
     add-i
     loop-less
     loop-again

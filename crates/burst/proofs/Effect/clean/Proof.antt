@@ -4,17 +4,12 @@ use mathlib.Core.Path.{sym, _∙_}
 use borrow.Author.Needs.{needs}
 use Rattle.burst.proofs.Effect.clean.Statement.{statement}
 use Rattle.burst.proofs.Effect.clean.Tie as tie
-use Rattle.burst.proofs.Effect.clean.Reads as reads
-use Rattle.burst.proofs.Effect.clean.Lts as lts
-use Rattle.ports.proofs.less.Reads as less-reads
-use Rattle.burst.proofs.Effect.data.Reads as data-reads
-use Rattle.burst.proofs.is_jam.Reads as is-jam-reads
 
 is-jam-requires : tie.Need-is-jam-requires
 is-jam-requires c κs = search needs
 
 returns : tie.Need-returns
-returns c = clean-jam (c .before .before .args .g) (c .before .before .args .self) (sym (c .before .is-jam .ensures) ∙ c .if1 .taken)
+returns c = clean-jam (c .before .before .args .hearing) (c .before .before .args .self) (sym (c .before .is-jam .ensures) ∙ c .if1 .taken)
 
 data-requires : tie.Need-data-requires
 data-requires c κs = search needs
@@ -27,7 +22,7 @@ returns-2 c =
     let l = c .before .before .before in
     let a = l .before .before .args in
     c .less .ensures
-    ∙ clean-rest (a .g) (a .self) _ (omega arith) (omega arith) (sym (l .before .is-jam .ensures) ∙ l .if1 .left) (c .before .before .«data» .ensures)
+    ∙ clean-rest (a .hearing) (a .self) _ (omega arith) (omega arith) (sym (l .before .is-jam .ensures) ∙ l .if1 .left) (c .before .before .«data» .ensures)
 
 pub clean-spec : {M : Type 1} → statement M
 clean-spec = tie.close (tie.spec is-jam-requires returns data-requires less-requires returns-2)

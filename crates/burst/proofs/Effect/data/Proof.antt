@@ -4,9 +4,6 @@ use mathlib.Core.Path.{sym, _∙_}
 use borrow.Author.Needs.{needs}
 use Rattle.burst.proofs.Effect.data.Statement.{statement}
 use Rattle.burst.proofs.Effect.data.Tie as tie
-use Rattle.burst.proofs.Effect.data.Reads as reads
-use Rattle.burst.proofs.Effect.data.Lts as lts
-use Rattle.burst.proofs.is_rep.Reads as is-rep-reads
 
 is-rep-requires : tie.Need-is-rep-requires
 is-rep-requires c κs = search needs

@@ -1,9 +1,8 @@
 -- `lent::lists::answer_all` meets its contract: a walk of its code, by hand. The pieces are counted, the host's record is made, and the loop (`Turn`) does
--- the rest.
--- Assumes nothing.
+-- the rest. Assumes nothing.
 mod Turn
 use mathlib.Core.Path.{_≡_, refl, ap}
-use Prim.Native.Nat.{ℕ, _<_, _-_}
+use Prim.Native.Nat.{ℕ}
 use lib.Dec.{lit<}
 use lib.ListN.{length}
 use mathlib.Core.List.{[], _∷_, List}
@@ -49,9 +48,9 @@ use Rattle.host.proofs.Host.power_up as fresh
 use Rattle.host.proofs.Host.power_up.Symbol as fresh-def
 use Rattle.host.proofs.Host.power_up.Symbol.{name as #fresh}
 use Rattle.host.proofs.Host.power_up.Met as fresh-thm
-use Rattle.himib.specs.declared.step.Chip.{Chip}
-use Rattle.himib.proofs.step.Chip as Chp
-use Rattle.himib.proofs.step.Chip.Laws as Chp′
+use Rattle.chip.specs.declared.Chip.{Chip}
+use Rattle.chip.proofs.Chip as Chp
+use Rattle.chip.proofs.Chip.Laws as Chp′
 use Rattle.lent.specs.Lists.{pieces}
 use Rattle.lent.proofs.Walk.{hostVal, chipVal, hostTy, hostFits, chipFits, indexOwned, answered}
 use Rattle.lent.proofs.PassOn.{Take}
@@ -162,8 +161,10 @@ module _ {M : Type 1} (𝓤 : URA M) (H : Heap 𝓤) (A : Atoms 𝓤) (W : Given
         assigns ! (of-opd ! (lit ! tt)) (from ! (stop !)) (init ! 18 refl (tt, record { fits = lit< tt })) $ forget ! 10 refl $ forget ! 12 refl $
         -- [the locals; the tokens; what the parameters own]: the slices and their tokens go in front
         move ! (35 ∷ []) $ fsplit ! $ drop ! $ fsplit ! $ move ! (1 ∷ []) $ fsplit ! $ move ! (37 ∷ []) $ split ! $ move ! (1 ∷ []) $ split ! $
-        keep ! (5 ∷ 2 ∷ 3 ∷ 0 ∷ 6 ∷ 7 ∷ 8 ∷ 9 ∷ 10 ∷ 11 ∷ 12 ∷ 13 ∷ 14 ∷ 15 ∷ 16 ∷ 17 ∷ 18 ∷ 19 ∷ 20 ∷ 21 ∷ 22 ∷ 23 ∷ 24 ∷ 25 ∷ 26 ∷ 27 ∷ 28 ∷ 29 ∷ 30 ∷ 31 ∷ 32 ∷ 33 ∷ 34 ∷ 35 ∷ 36 ∷ 37 ∷ 38 ∷ 39 ∷ []) $
-        from-loop 𝓤 H A W at-mem run c₀ gc κ q b o γ bs gn κ′ q′ b′ o′ γ′ out₀ gn′ 𝓣 fm known-request known-take known-lay l₀ l₁ l₂ l₃ l₄ l₅ l₆ l₇ l₈ l₉ l₁₀ l₁₁ l₁₂ l₁₃ l₁₄ l₁₅ l₁₆ h e
+        keep ! (5 ∷ 2 ∷ 3 ∷ 0 ∷ 6 ∷ 7 ∷ 8 ∷ 9 ∷ 10 ∷ 11 ∷ 12 ∷ 13 ∷ 14 ∷ 15 ∷ 16 ∷ 17 ∷ 18 ∷ 19 ∷ 20 ∷ 21 ∷ 22 ∷ 23 ∷ 24 ∷ 25 ∷ 26
+        ∷ 27 ∷ 28 ∷ 29 ∷ 30 ∷ 31 ∷ 32 ∷ 33 ∷ 34 ∷ 35 ∷ 36 ∷ 37 ∷ 38 ∷ 39 ∷ []) $
+        from-loop 𝓤 H A W at-mem run c₀ gc κ q b o γ bs gn κ′ q′ b′ o′ γ′ out₀ gn′ 𝓣 fm
+        known-request known-take known-lay l₀ l₁ l₂ l₃ l₄ l₅ l₆ l₇ l₈ l₉ l₁₀ l₁₁ l₁₂ l₁₃ l₁₄ l₁₅ l₁₆ h e
         (LL.owes Hst.the-type Hst′.the-laws h (LL.owed Hst.the-type Hst′.the-laws h _ was)))))))))))))))))))))))
 
 module _ {M : Type 1} (𝓤 : URA M) (H : Heap 𝓤) (A : Atoms 𝓤) (W : Given 𝓤 H A) (at-mem : Memory → SProp 𝓤) (run : Routine → Fun 𝓤) where

@@ -6,43 +6,33 @@ use borrow.Author.Needs.{needs}
 use Rattle.lent.proofs.lists.lay.Statement.{statement}
 use Rattle.lent.proofs.lists.lay.Tie as tie
 
--- src/lists.rt:66:9
 tell-requires : tie.Need-tell-requires
 tell-requires c κs = search needs
 
--- src/lists.rt:68:9
 returns : tie.Need-returns
 returns c = laid-out _ _ _ (c .if1 .taken)
 
--- src/lists.rt:70:14
 mul-at : tie.Need-mul-at
 mul-at c = search needs
 
--- src/lists.rt:71:5
 slice-write-answers : tie.Need-slice-write-answers
 slice-write-answers c = search needs
 
--- src/lists.rt:72:13
 add-answers : tie.Need-add-answers
 add-answers c = search needs
 
--- src/lists.rt:72:5
 slice-write-answers-2 : tie.Need-slice-write-answers-2
 slice-write-answers-2 c = simp length-set (omega arith)
 
--- src/lists.rt:73:13
 add-answers-2 : tie.Need-add-answers-2
 add-answers-2 c = search needs
 
--- src/lists.rt:73:5
 slice-write-answers-3 : tie.Need-slice-write-answers-3
 slice-write-answers-3 c = simp length-set (omega arith)
 
--- src/lists.rt:63:1
 same-length : tie.Need-same-length
 same-length c = search needs
 
--- src/lists.rt:63:1
 returns-2 : tie.Need-returns-2
 returns-2 c = laid-in _ _ _ (c .before .tell .result) (c .before .tell .ensures) (c .if1 .left)
 

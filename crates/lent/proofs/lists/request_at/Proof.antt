@@ -6,57 +6,44 @@ use borrow.Author.Needs.{needs}
 use Rattle.lent.proofs.lists.request_at.Statement.{statement}
 use Rattle.lent.proofs.lists.request_at.Tie as tie
 
--- src/lists.rt:55:17
 mul-start : tie.Need-mul-start
 mul-start c = search needs
 
--- src/lists.rt:56:8
 sub-if1 : tie.Need-sub-if1
 sub-if1 c = search needs
 
--- src/lists.rt:57:36
 sub-read-record : tie.Need-sub-read-record
 sub-read-record c = search needs
 
--- src/lists.rt:57:36
 part-read-record-start : tie.Need-part-read-record-start
 part-read-record-start c = search needs
 
--- src/lists.rt:57:36
 part-read-record-end : tie.Need-part-read-record-end
 part-read-record-end c = search needs
 
--- src/lists.rt:57:9
 read-record-requires : tie.Need-read-record-requires
 read-record-requires c κs = search needs
 
--- src/lists.rt:57:9
 returns : tie.Need-returns
 returns c =
     let a = c .before .before .before .before .args in
     c .read-record .ensures ∙ ap recordOf (piece-short (a .records .now) (a .i) (c .before .before .if1 .taken))
 
--- src/lists.rt:59:41
 add-read-record : tie.Need-add-read-record
 add-read-record c = search needs
 
--- src/lists.rt:59:25
 sub-read-record-2 : tie.Need-sub-read-record-2
 sub-read-record-2 c = search needs
 
--- src/lists.rt:59:25
 part-read-record-start-2 : tie.Need-part-read-record-start-2
 part-read-record-start-2 c = search needs
 
--- src/lists.rt:59:25
 part-read-record-end-2 : tie.Need-part-read-record-end-2
 part-read-record-end-2 c = search needs
 
--- src/lists.rt:59:5
 read-record-requires-2 : tie.Need-read-record-requires-2
 read-record-requires-2 c κs = search needs
 
--- src/lists.rt:51:1
 returns-2 : tie.Need-returns-2
 returns-2 c = let a = c .before .before .before .before .args in c .read-record2 .ensures ∙ ap recordOf (piece-whole (a .records .now) (a .i))
 

@@ -4,8 +4,6 @@ use mathlib.Core.Path.{sym, ap}
 use borrow.Author.Needs.{needs}
 use Rattle.management.proofs.Status.clear.Statement.{statement}
 use Rattle.management.proofs.Status.clear.Tie as tie
-use Rattle.management.proofs.Status.clear.Reads as reads
-use Rattle.management.proofs.Status.clear.Lts as lts
 
 enum-told : tie.Need-enum-told
 enum-told c = search needs

@@ -2,8 +2,6 @@ use mathlib.Core.Path.{refl}
 use Rattle.management.specs.Status.{marked}
 use Rattle.management.proofs.Status.mark.Statement.{statement}
 use Rattle.management.proofs.Status.mark.Tie as tie
-use Rattle.management.proofs.Status.mark.Reads as reads
-use Rattle.management.proofs.Status.mark.Lts as lts
 
 returns : tie.Need-returns
 unfolding marked

@@ -7,13 +7,6 @@ use native.Mathlib.Omega.{arith}
 use borrow.Author.Needs.{needs}
 use Rattle.repeater.proofs.Repeater.answer.Statement.{statement}
 use Rattle.repeater.proofs.Repeater.answer.Tie as tie
-use Rattle.repeater.proofs.Repeater.answer.Reads as reads
-use Rattle.repeater.proofs.Repeater.answer.Lts as lts
-use Rattle.repeater.proofs.Repeater.aui_byte.Reads as aui-byte-reads
-use Rattle.repeater.proofs.Repeater.linked.Reads as linked-reads
-use Rattle.repeater.proofs.Repeater.partitioned.Reads as partitioned-reads
-use Rattle.repeater.proofs.low_byte.Reads as low-byte-reads
-use Rattle.repeater.proofs.weight.Reads as weight-reads
 
 enum-told : tie.Need-enum-told
 enum-told c = search needs
@@ -90,7 +83,12 @@ returns-4 c = c .aui-byte4 .ensures ∙ sym (ap (λ (k : Query). answerOf k (c .
 
 returns-5 : tie.Need-returns-5
 unfolding answerOf
-returns-5 c = ap (λ (n : ℕ). 255 - n) (c .low-byte .ensures ∙ ap (λ (n : ℕ). n % 256) (c .before .partitioned .ensures)) ∙ connected-byte (c .before .before .before .before .before .args .self) ∙ sym (ap (λ (k : Query). answerOf k (c .before .before .before .before .before .args .self)) (c .before .before .enum-told5 .given .1))
+returns-5 c =
+    let l = c .before .before in
+    let r = l .before .before .before .args .self in
+    ap (λ (n : ℕ). 255 - n) (c .low-byte .ensures ∙ ap (λ (n : ℕ). n % 256) (c .before .partitioned .ensures))
+    ∙ connected-byte r
+    ∙ sym (ap (λ (k : Query). answerOf k r) (l .enum-told5 .given .1))
 
 returns-6 : tie.Need-returns-6
 unfolding answerOf
@@ -98,7 +96,13 @@ returns-6 c = sym (ap (λ (k : Query). answerOf k (c .before .before .before .ar
 
 returns-7 : tie.Need-returns-7
 unfolding answerOf
-returns-7 c = c .low-byte2 .ensures ∙ ap (λ (n : ℕ). n % 256) (c .before .linked .ensures) ∙ linked-byte (c .before .before .before .before .before .args .self) ∙ sym (ap (λ (k : Query). answerOf k (c .before .before .before .before .before .args .self)) (c .before .before .enum-told7 .given .1))
+returns-7 c =
+    let l = c .before .before in
+    let r = l .before .before .before .args .self in
+    c .low-byte2 .ensures
+    ∙ ap (λ (n : ℕ). n % 256) (c .before .linked .ensures)
+    ∙ linked-byte r
+    ∙ sym (ap (λ (k : Query). answerOf k r) (l .enum-told7 .given .1))
 
 returns-8 : tie.Need-returns-8
 unfolding answerOf

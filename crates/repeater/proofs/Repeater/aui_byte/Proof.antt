@@ -2,12 +2,9 @@ use native.Mathlib.Omega.{arith}
 use borrow.Author.Needs.{needs}
 use Rattle.repeater.proofs.Repeater.aui_byte.Statement.{statement}
 use Rattle.repeater.proofs.Repeater.aui_byte.Tie as tie
-use Rattle.repeater.proofs.Repeater.aui_byte.Reads as reads
-use Rattle.repeater.proofs.Repeater.aui_byte.Lts as lts
-use Rattle.repeater.proofs.weight.Reads as weight-reads
 
-array-copy-out-p : tie.Need-array-copy-out-p
-array-copy-out-p c = search needs
+port-at-requires : tie.Need-port-at-requires
+port-at-requires c κs = search needs
 
 weight-requires : tie.Need-weight-requires
 weight-requires c κs = search needs
@@ -31,13 +28,16 @@ add-result-3 : tie.Need-add-result-3
 add-result-3 c = omega arith
 
 returns : tie.Need-returns
-returns c = rw (c .before .before .before .weight .ensures .0, c .before .before .weight2 .ensures .0, c .before .weight3 .ensures .0, c .weight4 .ensures .0)
+returns c =
+    let l = c .before .before .before in
+    let p = l .before .before .before .port-at in
+    rw (l .weight .ensures .0, c .before .before .weight2 .ensures .0, c .before .weight3 .ensures .0, c .weight4 .ensures .0, p .ensures)
 
 pub aui-byte-spec : {M : Type 1} → statement M
 aui-byte-spec =
     tie.close
     (tie.spec
-    array-copy-out-p
+    port-at-requires
     weight-requires
     weight-requires-2
     add-result

@@ -3,10 +3,6 @@ use Rattle.repeater.specs.Repeater.{changedTp}
 use borrow.Author.Needs.{needs}
 use Rattle.repeater.proofs.Repeater.change_tp.Statement.{statement}
 use Rattle.repeater.proofs.Repeater.change_tp.Tie as tie
-use Rattle.repeater.proofs.Repeater.change_tp.Reads as reads
-use Rattle.repeater.proofs.Repeater.change_tp.Lts as lts
-use Rattle.repeater.proofs.Repeater.change_at.Reads as change-at-reads
-use Rattle.repeater.proofs.index.Reads as index-reads
 
 index-requires : tie.Need-index-requires
 index-requires c κs = search needs
@@ -16,7 +12,9 @@ change-at-requires c κs = search needs
 
 returns : tie.Need-returns
 unfolding changedTp
-returns c = rw (lt-ltb _ _ (rw (c .before .before .index .ensures) at (c .before .if1 .taken))) (rw (c .before .before .index .ensures) at (c .change-at .ensures))
+returns c =
+    let l = c .before .before in
+    rw (lt-ltb _ _ (rw (l .index .ensures) at (c .before .if1 .taken))) (rw (l .index .ensures) at (c .change-at .ensures))
 
 returns-2 : tie.Need-returns-2
 unfolding changedTp

@@ -2,10 +2,6 @@ use Rattle.repeater.specs.Repeater.{gotOf}
 use borrow.Author.Needs.{needs}
 use Rattle.repeater.proofs.Repeater.get.Statement.{statement}
 use Rattle.repeater.proofs.Repeater.get.Tie as tie
-use Rattle.repeater.proofs.Repeater.get.Reads as reads
-use Rattle.repeater.proofs.Repeater.get.Lts as lts
-use Rattle.repeater.proofs.Repeater.answer.Reads as answer-reads
-use Rattle.management.proofs.Status.clear.Reads as clear-reads
 
 answer-requires : tie.Need-answer-requires
 answer-requires c κs = search needs

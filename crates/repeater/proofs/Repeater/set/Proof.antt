@@ -4,10 +4,6 @@ use mathlib.Core.Path.{sym, ap, _∙_}
 use borrow.Author.Needs.{needs}
 use Rattle.repeater.proofs.Repeater.set.Statement.{statement}
 use Rattle.repeater.proofs.Repeater.set.Tie as tie
-use Rattle.repeater.proofs.Repeater.set.Reads as reads
-use Rattle.repeater.proofs.Repeater.set.Lts as lts
-use Rattle.repeater.proofs.Repeater.change_at.Reads as change-at-reads
-use Rattle.repeater.proofs.Repeater.change_tp.Reads as change-tp-reads
 
 enum-told : tie.Need-enum-told
 enum-told c = search needs
@@ -27,26 +23,26 @@ enum-told-4 c = search needs
 change-at-requires-2 : tie.Need-change-at-requires-2
 change-at-requires-2 c κs = search needs
 
-enum-known-s : tie.Need-enum-known-s
-enum-known-s c = search needs
+enum-known-setting : tie.Need-enum-known-setting
+enum-known-setting c = search needs
 
 change-tp-requires : tie.Need-change-tp-requires
 change-tp-requires c κs = search needs
 
-enum-known-s-2 : tie.Need-enum-known-s-2
-enum-known-s-2 c = search needs
+enum-known-setting-2 : tie.Need-enum-known-setting-2
+enum-known-setting-2 c = search needs
 
 change-tp-requires-2 : tie.Need-change-tp-requires-2
 change-tp-requires-2 c κs = search needs
 
-enum-known-s-3 : tie.Need-enum-known-s-3
-enum-known-s-3 c = search needs
+enum-known-setting-3 : tie.Need-enum-known-setting-3
+enum-known-setting-3 c = search needs
 
 change-tp-requires-3 : tie.Need-change-tp-requires-3
 change-tp-requires-3 c κs = search needs
 
-enum-known-s-4 : tie.Need-enum-known-s-4
-enum-known-s-4 c = search needs
+enum-known-setting-4 : tie.Need-enum-known-setting-4
+enum-known-setting-4 c = search needs
 
 change-tp-requires-4 : tie.Need-change-tp-requires-4
 change-tp-requires-4 c κs = search needs
@@ -69,19 +65,27 @@ returns-4 c = c .change-at2 .ensures ∙ sym (ap (λ (k : Setting). setTo k (c .
 
 returns-5 : tie.Need-returns-5
 unfolding setTo
-returns-5 c = c .change-tp .ensures ∙ sym (ap (λ (k : Setting). setTo k (c .before .before .before .before .args .self)) (c .before .before .s .given .1))
+returns-5 c =
+    let l = c .before .before in
+    c .change-tp .ensures ∙ sym (ap (λ (k : Setting). setTo k (l .before .before .args .self)) (l .setting .given .1))
 
 returns-6 : tie.Need-returns-6
 unfolding setTo
-returns-6 c = c .change-tp2 .ensures ∙ sym (ap (λ (k : Setting). setTo k (c .before .before .before .before .args .self)) (c .before .before .s2 .given .1))
+returns-6 c =
+    let l = c .before .before in
+    c .change-tp2 .ensures ∙ sym (ap (λ (k : Setting). setTo k (l .before .before .args .self)) (l .setting2 .given .1))
 
 returns-7 : tie.Need-returns-7
 unfolding setTo
-returns-7 c = c .change-tp3 .ensures ∙ sym (ap (λ (k : Setting). setTo k (c .before .before .before .before .args .self)) (c .before .before .s3 .given .1))
+returns-7 c =
+    let l = c .before .before in
+    c .change-tp3 .ensures ∙ sym (ap (λ (k : Setting). setTo k (l .before .before .args .self)) (l .setting3 .given .1))
 
 returns-8 : tie.Need-returns-8
 unfolding setTo
-returns-8 c = c .change-tp4 .ensures ∙ sym (ap (λ (k : Setting). setTo k (c .before .before .before .before .args .self)) (c .before .before .s4 .given .1))
+returns-8 c =
+    let l = c .before .before in
+    c .change-tp4 .ensures ∙ sym (ap (λ (k : Setting). setTo k (l .before .before .args .self)) (l .setting4 .given .1))
 
 pub set-spec : {M : Type 1} → statement M
 set-spec =
@@ -93,13 +97,13 @@ set-spec =
     change-at-requires
     enum-told-4
     change-at-requires-2
-    enum-known-s
+    enum-known-setting
     change-tp-requires
-    enum-known-s-2
+    enum-known-setting-2
     change-tp-requires-2
-    enum-known-s-3
+    enum-known-setting-3
     change-tp-requires-3
-    enum-known-s-4
+    enum-known-setting-4
     change-tp-requires-4
     returns
     returns-2

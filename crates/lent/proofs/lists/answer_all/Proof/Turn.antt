@@ -1,6 +1,5 @@
 -- The loop of `answer_all`. At each turn a piece is read, the host's record, which stands in a local, is lent to `take` and comes back, and the buffer is
--- lent to `lay`
--- and comes back.
+-- lent to `lay` and comes back.
 --   St          == where the loop stands: index, record, chip and buffer, with what is known of them
 --   Stands, At  == what is had in a turn, and where a turn begins
 --   turns       == a turn, in three parts; serves and lays are the second and the third
@@ -26,8 +25,10 @@ use prog.Routine.{Routine}
 use prog.Wp.{Heap, Env, Out, Calls, Loops, Wp, Tables, afterSeq, afterBlock, afterTurn, atReturn}
 use ghost.Atoms.{Atoms, sem}
 use contract.Monad.{Fun, fact}
-use types.Kit.{Given, Item, Sq, runs, anyQ, atRet, ⋆, ‵, raw, some, later, _⊛_, _$_, _∵_, !, qed, by, move, keep, drop, use1, use2, use3, split, join, pick, rewrite, fsplit, fjoin, feqL, suffices, frame, await, done}
-use types.Run.{look, init, store, addr, lit, bin, hop, fld, assigns-last, first, skips, jumps, blocks, branches, exec, Below, again, loops, forget, stop, from, load, of-opd, and-then, no-more, assigns, land, returns, free1, free0}
+use types.Kit.{Given, Item, Sq, runs, anyQ, atRet, ⋆, ‵, raw, some, later, _⊛_, _$_, _∵_, !, qed, by, move, keep, drop, use1, use2, use3, split, join}
+use types.Kit.{pick, rewrite, fsplit, fjoin, feqL, suffices, frame, await, done}
+use types.Run.{look, init, store, addr, lit, bin, hop, fld, assigns-last, first, skips, jumps, blocks, branches, exec, Below, again, loops}
+use types.Run.{forget, stop, from, load, of-opd, and-then, no-more, assigns, land, returns, free1, free0}
 use types.Part.{agg, whole, sub, look-in}
 use types.Tokens.{lft-new, lft-end}
 use types.SemTy.{Body}
@@ -57,17 +58,18 @@ use Rattle.host.proofs.Host.Laws as Hst′
 use Rattle.answer.specs.declared.Answer.{Answer}
 use Rattle.answer.proofs.Answer as Ans
 use Rattle.answer.proofs.Answer.Laws as Ans′
-use Rattle.himib.specs.declared.step.Chip.{Chip}
-use Rattle.himib.proofs.step.Chip as Chp
+use Rattle.chip.specs.declared.Chip.{Chip}
+use Rattle.chip.proofs.Chip as Chp
 use Rattle.record.specs.declared.Record.{Record}
 use Rattle.record.specs.Refusals.{recordOf}
 use Rattle.record.proofs.Record as Rqs
 use Rattle.lent.specs.declared.Rest.{Rest}
-use Rattle.lent.specs.Lent.{together, served}
+use Rattle.lent.specs.Lent.{together, requested}
 use Rattle.lent.specs.Lists.{pieces, piece, laid, chipAfterAll, answersLaid}
 use Rattle.lent.proofs.Rest as Rst
 use Rattle.lent.proofs.Rest.Laws as Rst′
-use Rattle.lent.proofs.Walk.{hostVal, chipVal, restVal, hostTy, chipTy, requestTy, restTy, lentTy, lentAt, chipFits, requestFits, restFits, hostOwned, chipOwned, answerOwned, indexOwned, answered, after}
+use Rattle.lent.proofs.Walk.{hostVal, chipVal, restVal, hostTy, chipTy, requestTy, restTy, lentTy, lentAt}
+use Rattle.lent.proofs.Walk.{chipFits, requestFits, restFits, hostOwned, chipOwned, answerOwned, indexOwned, answered, after}
 use Rattle.lent.proofs.PassOn.{Take, to-take, goes-take, took}
 use Rattle.lent.proofs.Buffer.{bytesAt, Away, lends-on, comes-home}
 use Rattle.lent.proofs.ListLaws.{Going, going-start, going-next, going-end}
@@ -170,7 +172,17 @@ module _ {M : Type 1} (𝓤 : URA M) (H : Heap 𝓤) (A : Atoms 𝓤) (W : Given
   Nearer-wf = InvImage·wf (λ (t : St). n - t .i) (Nat·lt-wfRel .wf)
 
   start : (h : Host) → h ≡ powerUp → Is Hst.the-row h (hostVal h ∷ []) → St
-  start h e is = record { i = 0; host = h; chip = c₀; out = out₀; in-range = omega arith; host-is = is; chip-is = gc; same = refl; going = going-start c₀ bs out₀ h e }
+  start h e is = record {
+    i = 0;
+    host = h;
+    chip = c₀;
+    out = out₀;
+    in-range = omega arith;
+    host-is = is;
+    chip-is = gc;
+    same = refl;
+    going = going-start c₀ bs out₀ h e;
+  }
 
   next-fits : (t : St) → t .i < n → t .i + 1 < 2 ^ 64
   next-fits t l = omega (arith, n-fits)
@@ -196,7 +208,7 @@ module _ {M : Type 1} (𝓤 : URA M) (H : Heap 𝓤) (A : Atoms 𝓤) (W : Given
 
   -- what `take` says at a turn
   abbrev pub Served : St → Rest → Host → Type 0
-  Served t a z = together a z ≡ served (recordOf (piece bs (t .i))) (t .chip) (t .host)
+  Served t a z = together a z ≡ requested (recordOf (piece bs (t .i))) (t .chip) (t .host)
 
   next : (t : St) → t .i < n → (a : Rest) (z : Host) (zs : List ℕ) → Served t a z → zs ≡ laid (t .out) (t .i) (a .answer) → length zs ≡ length (t .out)
       → Is Rst.the-row a (restVal a ∷ []) → Is Hst.the-row z (hostVal z ∷ []) → St
@@ -344,7 +356,8 @@ module _ {M : Type 1} (𝓤 : URA M) (H : Heap 𝓤) (A : Atoms 𝓤) (W : Given
         assigns-last ! (bin ! (load ! (from ! (stop !)) (look ! 24 refl)) (lit ! tt) (record { fits = next-fits t l })) (from ! (stop !))
         (store ! 24 refl (tt, record { fits = next-fits t l })) $
         forget ! 6 refl $ forget ! 8 refl $ forget ! 10 refl $ forget ! 12 refl $ forget ! 14 refl $ forget ! 20 refl $ forget ! 22 refl $
-        keep ! (4 ∷ 5 ∷ 0 ∷ 1 ∷ 6 ∷ 7 ∷ 8 ∷ 9 ∷ 10 ∷ 11 ∷ 12 ∷ 13 ∷ 14 ∷ 15 ∷ 16 ∷ 17 ∷ 18 ∷ 19 ∷ 20 ∷ 21 ∷ 22 ∷ 23 ∷ 24 ∷ 25 ∷ 26 ∷ 27 ∷ 28 ∷ 29 ∷ 30 ∷ 31 ∷ 32 ∷ 33 ∷ 34 ∷ 35 ∷ 36 ∷ 37 ∷ 38 ∷ 39 ∷ []) $
+        keep ! (4 ∷ 5 ∷ 0 ∷ 1 ∷ 6 ∷ 7 ∷ 8 ∷ 9 ∷ 10 ∷ 11 ∷ 12 ∷ 13 ∷ 14 ∷ 15 ∷ 16 ∷ 17 ∷ 18 ∷ 19 ∷ 20 ∷ 21 ∷ 22 ∷ 23 ∷ 24 ∷ 25 ∷ 26
+        ∷ 27 ∷ 28 ∷ 29 ∷ 30 ∷ 31 ∷ 32 ∷ 33 ∷ 34 ∷ 35 ∷ 36 ∷ 37 ∷ 38 ∷ 39 ∷ []) $
         again ! Nearer At t (next t l a z (zs .0) e d lz is isz) (nearer t l)))))))))
 
     -- the second part: the host's record is lent to `take`, and comes back
@@ -379,8 +392,9 @@ module _ {M : Type 1} (𝓤 : URA M) (H : Heap 𝓤) (A : Atoms 𝓤) (W : Given
         pick ! (λ u. split ! $
         move ! (1 ∷ []) $ peeks ! Hst.the-row (Is Hst.the-row) (shows 𝓤 H A Hst.the-row) z (u ∷ []) (λ isz. drop ! $
         rewrite ! 0 (λ (u′ : Val). ‵ (fat fullShare hostTy l₅ 0 u′)) (ap only (LL.tells Hst.the-type Hst′.the-laws z _ isz)) refl $
-        keep ! (1 ∷ 2 ∷ 3 ∷ 4 ∷ 5 ∷ 6 ∷ 7 ∷ 8 ∷ 9 ∷ 10 ∷ 11 ∷ 12 ∷ 13 ∷ 14 ∷ 15 ∷ 16 ∷ 17 ∷ 18 ∷ 19 ∷ 20 ∷ 21 ∷ 22 ∷ 23 ∷ 24 ∷ 25 ∷ 26 ∷ 0 ∷ 27 ∷ 28 ∷ 29 ∷ 30 ∷ 31 ∷ 32 ∷ 33 ∷ 34 ∷ 35 ∷ 36 ∷ 37 ∷ []) $
-        lays t l a z v (e ∙ ap (λ (r′ : Record). served r′ (t .chip) (t .host)) er)
+        keep ! (1 ∷ 2 ∷ 3 ∷ 4 ∷ 5 ∷ 6 ∷ 7 ∷ 8 ∷ 9 ∷ 10 ∷ 11 ∷ 12 ∷ 13 ∷ 14 ∷ 15 ∷ 16 ∷ 17 ∷ 18 ∷ 19 ∷ 20 ∷ 21 ∷ 22 ∷ 23 ∷ 24 ∷ 25 ∷ 26
+        ∷ 0 ∷ 27 ∷ 28 ∷ 29 ∷ 30 ∷ 31 ∷ 32 ∷ 33 ∷ 34 ∷ 35 ∷ 36 ∷ 37 ∷ []) $
+        lays t l a z v (e ∙ ap (λ (r′ : Record). requested r′ (t .chip) (t .host)) er)
         (LL.owes Rst.the-type Rst′.the-laws a (LL.owed Rst.the-type Rst′.the-laws a _ is))
         (LL.owes Hst.the-type Hst′.the-laws z (LL.owed Hst.the-type Hst′.the-laws z _ isz))))))))
 
@@ -399,7 +413,8 @@ module _ {M : Type 1} (𝓤 : URA M) (H : Heap 𝓤) (A : Atoms 𝓤) (W : Given
         answered W (‵ (flft κ q) ⊛ ‵ ftrue) Rqs.the-row (Asked-for 𝓤 H A at-mem run κ y (t .i)) (λ r. r ≡ recordOf (piece bs (t .i)))
         (request-said 𝓤 H A at-mem run κ y (t .i)) v tt ! (λ r er ir.
         land ! (from ! (stop !)) (init ! 20 refl (requestFits W r v ir)) $ split ! $
-        keep ! (2 ∷ 0 ∷ 3 ∷ 4 ∷ 5 ∷ 6 ∷ 7 ∷ 8 ∷ 9 ∷ 10 ∷ 11 ∷ 12 ∷ 13 ∷ 14 ∷ 15 ∷ 16 ∷ 17 ∷ 18 ∷ 19 ∷ 20 ∷ 21 ∷ 22 ∷ 23 ∷ 24 ∷ 25 ∷ 26 ∷ 27 ∷ 28 ∷ 29 ∷ 30 ∷ 31 ∷ 32 ∷ 33 ∷ 34 ∷ 35 ∷ 36 ∷ 37 ∷ 38 ∷ []) $
+        keep ! (2 ∷ 0 ∷ 3 ∷ 4 ∷ 5 ∷ 6 ∷ 7 ∷ 8 ∷ 9 ∷ 10 ∷ 11 ∷ 12 ∷ 13 ∷ 14 ∷ 15 ∷ 16 ∷ 17 ∷ 18 ∷ 19 ∷ 20 ∷ 21 ∷ 22 ∷ 23 ∷ 24 ∷ 25 ∷ 26
+        ∷ 27 ∷ 28 ∷ 29 ∷ 30 ∷ 31 ∷ 32 ∷ 33 ∷ 34 ∷ 35 ∷ 36 ∷ 37 ∷ 38 ∷ []) $
         serves t (ltb→lt (t .i) n less) r v er ir)))
         (λ over. jumps ! $ exec ! C Λ En body.t-8 (atRet En Post) $
         assigns ! (of-opd ! (load ! (from ! (stop !)) (look ! 24 refl))) (from ! (stop !))

@@ -1,0 +1,4 @@
+-- The host's accesses.
+pub mod Access
+pub mod Refusals
+pub mod Sheet

@@ -1,0 +1,21 @@
+use native.Mathlib.Omega.{arith}
+use lib.Seq.{set-out}
+use mathlib.Core.Path.{sym}
+use borrow.Author.Needs.{needs}
+use Rattle.attributes.proofs.put_at.Statement.{statement}
+use Rattle.attributes.proofs.put_at.Tie as tie
+
+mul-out : tie.Need-mul-out
+mul-out c = search needs
+
+array-set-from-out : tie.Need-array-set-from-out
+array-set-from-out c = search needs
+
+returns : tie.Need-returns
+returns c = search needs
+
+returns-2 : tie.Need-returns-2
+returns-2 c = sym (set-out _ _ _ (omega arith))
+
+pub put-at-spec : {M : Type 1} → statement M
+put-at-spec = tie.close (tie.spec mul-out array-set-from-out returns returns-2)

@@ -1,0 +1,2 @@
+-- Laws of the chip's state.
+pub mod ChipLaws

@@ -1,0 +1,2 @@
+-- The chip's state.
+pub mod Chip

@@ -1,0 +1,137 @@
+// The chip's state: the core (the repeater, the change bits and their enables, what a reset keeps, the interface error, G) and the nine ports' attributes.
+// Power-up and reset; and what is noted when the repeater has moved.
+ghost use mathlib.Core.Path.{_≡_};
+ghost use mathlib.Core.Bool.{false};
+ghost use Rattle.repeater.specs.Repeater.{quieted};
+ghost use Rattle.chip.specs.Chip.{coreUp, chipUp, coreReset, movedBy, moved, one, totalled};
+use attributes::Nine;
+use ports::Quiet;
+use repeater::Repeater;
+
+// What a reset keeps of the core: the chip's own two counters.
+pub struct Kept {
+    pub transmit_collisions: u32,
+    pub total_octets: u32,
+}
+
+pub struct Core {
+    pub repeater: Repeater,
+    pub changes: [u8; 8],
+    pub enables: [u8; 8],
+    pub kept: Kept,
+    pub interface_error: bool,
+    pub g: u8,
+}
+
+// What power-up is given by the caller.
+pub struct Supply {
+    pub attributes: Nine,
+    pub kept: Kept,
+}
+
+pub struct Chip {
+    pub core: Core,
+    pub attributes: Nine,
+}
+
+// One more, or none.
+fn once(happened: bool) -> u32
+    ensures { λ r. ⌜ r ≡ one happened ⌝ }
+{
+    if happened { 1 } else { 0 }
+}
+
+impl Core {
+    // At power-up, with what it is given to keep.
+    pub fn power_up(kept: Kept) -> Core
+        ensures { λ r. ⌜ r ≡ coreUp kept ⌝ }
+    {
+        let repeater = Repeater::power_up();
+        Core {
+            repeater: repeater,
+            changes: [0; 8],
+            enables: [0; 8],
+            kept: kept,
+            interface_error: false,
+            g: 0,
+        }
+    }
+
+    // After a reset.
+    pub fn reset(self) -> Core
+        ensures { λ r. ⌜ r ≡ coreReset self ⌝ }
+    {
+        let kept = self.kept;
+        Core::power_up(kept)
+    }
+
+    // With the repeater as it is now and these ports' partition states changed; what changed of the links is noted, too.
+    pub fn move_by(
+        mut self,
+        next: Repeater,
+        partition: u16,
+        loopback: bool,
+        sqe: bool,
+        address: u16,
+    ) -> Core
+        ensures { λ r. ⌜ r ≡ movedBy self next partition loopback sqe address ⌝ }
+    {
+        let repeater = self.repeater;
+        let changes = self.changes;
+        let link = repeater.linked() ^ next.linked();
+        let noted = changes::note(
+            changes,
+            changes::events(partition, link, loopback, sqe, address),
+        );
+        self.repeater = next;
+        self.changes = noted;
+        self
+    }
+
+    // With the repeater as it is now; what changed of it is noted.
+    pub fn move_to(self, next: Repeater) -> Core
+        ensures { λ r. ⌜ r ≡ moved self next false false 0 ⌝ }
+    {
+        let repeater = self.repeater;
+        let partition = repeater.partitioned() ^ next.partitioned();
+        self.move_by(next, partition, false, false, 0)
+    }
+
+    // After link pulses or a tick. They change no port's partition state.
+    pub fn pass(self, quiet: Quiet) -> Core
+        ensures { λ r. ⌜ r ≡ moved self (quieted quiet (self .repeater)) false false 0 ⌝ }
+    {
+        let repeater = self.repeater;
+        self.move_by(repeater.quiet(quiet), 0, false, false, 0)
+    }
+
+    // With what a burst adds to the chip's two counters.
+    pub fn total(mut self, transmit_collision: bool, octets: u32) -> Core
+        ensures { λ r. ⌜ r ≡ totalled self «transmit_collision» octets ⌝ }
+    {
+        let kept = self.kept;
+        let sum = Kept {
+            transmit_collisions: std::num::wrapping_add_u32(
+                kept.transmit_collisions,
+                once(transmit_collision),
+            ),
+            total_octets: std::num::wrapping_add_u32(kept.total_octets, octets),
+        };
+        self.kept = sum;
+        self
+    }
+}
+
+impl Chip {
+    // At power-up.
+    pub fn power_up(supply: Supply) -> Chip
+        ensures { λ r. ⌜ r ≡ chipUp supply ⌝ }
+    {
+        let core = Core::power_up(supply.kept);
+        let attributes = supply.attributes;
+        Chip {
+            core: core,
+            attributes: attributes,
+        }
+    }
+}

@@ -1,0 +1,2 @@
+-- What the program and the lent record do is what the demands speak of.
+pub mod Ties
