@@ -3,6 +3,7 @@ pub mod Computing
 pub mod Accesses
 pub mod Enabled
 pub mod Partition
+pub mod Places
 pub mod ChangeBits
 pub mod Instances
 pub mod Credited

@@ -27,6 +27,7 @@ use Rattle.host.specs.declared.Host.{Host}
 use Rattle.host.specs.declared.Register.{Register}
 use Rattle.host.specs.declared.Role.{Role}
 use Rattle.host.specs.declared.Role.the-variants as role
+use Rattle.host.specs.Map.{rowAt}
 use Rattle.host.specs.Sequence.{placeFor, wroteByte}
 use Rattle.answer.specs.declared.Answer.{Answer}
 use Rattle.answer.specs.declared.Answer.the-variants.{Refused}
@@ -162,6 +163,10 @@ noneOf c (h ∷ hs) = not (c h) && noneOf c hs
 unfoldable pub cameAfter : (Happening → Bool) → (Happening → Bool) → List Happening → Bool
 cameAfter e c [] = false
 cameAfter e c (h ∷ hs) = cameAfter e c hs || (e h && not (c h) && noneOf c hs)
+
+-- what a read of change register R is, by the P and R that the host selected: a listed register is it exactly at P 1 R k
+abbrev pub ReadsByPlace : Type 0
+ReadsByPlace = (p r k : ℕ) → (rowAt p r .size ≡ 0 → ⊥) → isChange k (rowAt p r .role) ≡ (eqb p 1 && eqb r k)
 
 abbrev pub ChangeBitsByPast : Type 0
 ChangeBitsByPast =
