@@ -1,5 +1,6 @@
 -- What the walks share.
 pub mod Walk
+pub mod TakeOut
 pub mod PassOn
 pub mod Writing
 pub mod Reading

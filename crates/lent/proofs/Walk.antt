@@ -1,5 +1,5 @@
 -- What the walks of this crate share: the machine values that they handle, what is known of each, and how the answer of a called function is taken.
---   hostVal, chipVal, requestVal, restVal == the machine value of a record, a chip, a request, and of what comes back
+--   hostVal, chipVal, requestVal, answerVal, restVal == the machine value of a record, a chip, a request, an answer, and of what comes back
 --   hostTy, chipTy, requestTy, restTy     == the types of locals that hold them
 --   givenTy, lentTy                       == the types of a reference that is a parameter, and of one made in a body
 --   hostFits .. restFits                  == a value that is one of them can be stored in such a local
@@ -55,6 +55,9 @@ chipVal = LL.val Chp.the-type Chp′.the-laws
 
 abbrev pub requestVal : Record → Val
 requestVal = LL.val Rqs.the-type Rqs′.the-laws
+
+abbrev pub answerVal : Answer → Val
+answerVal = EL.val Ans.the-type Ans′.the-laws
 
 abbrev pub restVal : Rest → Val
 restVal = LL.val Rst.the-type Rst′.the-laws
