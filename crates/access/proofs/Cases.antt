@@ -1,7 +1,7 @@
 -- What an access can come to: it is turned away, or it is done. Whatever holds of each outcome holds of the access. Assumes nothing.
 --   stored row c h b        == after a D write of a byte that the row takes
 --   read-cases, write-cases == of a D read, and of a D write
---   served-kept             == an access leaves the two counters that a reset keeps alone
+--   obeyed-kept, served-kept == a command, and any access, leaves the two counters that a reset keeps alone
 --   read-nobody             == a D read completes no address
 use Prim.Native.Nat.{ℕ}
 use mathlib.Core.Path.{_≡_, refl}
@@ -55,10 +55,10 @@ module _ (P : Acted → Type 0) (c : Core) (h : Host) (away : (k : ℕ) → P (t
 -- WHAT A RESET KEEPS
 
 module _ (c : Core) where
-  abbrev Same : Core → Type 0
+  abbrev pub Same : Core → Type 0
   Same d = d .kept ≡ c .kept
 
-  obeyed-kept : (throughG : Bool) (k : Command) → Same (obeyed throughG k c)
+  pub obeyed-kept : (throughG : Bool) (k : Command) → Same (obeyed throughG k c)
   unfolding obeyed moved
   obeyed-kept throughG (Set s) = refl
   obeyed-kept throughG (Get q) = refl

@@ -3,7 +3,7 @@ use mathlib.Core.Path.{_≡_, refl}
 use mathlib.Core.List.{List, map}
 use Rattle.host.specs.Sequence.{powerUp}
 use Rattle.access.specs.Access.{valueOf, numberOf}
-use Rattle.access.specs.Sheet.{Row, said, ports, up, commands, bits, interrupts, barred, address, completed}
+use Rattle.access.specs.Sheet.{Row, said, ports, up, commands, bits, interrupts, registers, barred, address, completed}
 use Rattle.access.specs.Sheet.{Content, counting, countingPorts, contents}
 use Rattle.access.proofs.Computing.{accessing}
 
@@ -21,6 +21,10 @@ bits-hold = refl
 pub interrupts-hold : Holds interrupts
 unfolding accessing said interrupts
 interrupts-hold = refl
+
+pub registers-hold : Holds registers
+unfolding accessing said registers
+registers-hold = refl
 
 pub barred-hold : Holds barred
 unfolding accessing said barred

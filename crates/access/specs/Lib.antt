@@ -2,3 +2,4 @@
 pub mod Access
 pub mod Refusals
 pub mod Sheet
+pub mod Still

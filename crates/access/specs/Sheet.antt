@@ -4,7 +4,8 @@
 --   ports c h rest == the port whose address each of them completes, or nobody
 --   Row          == what stands at the start, the accesses, and their answers
 --   select p r   == the C writes that select P and R
---   commands, bits, interrupts, barred == the tables: commands through both registers, what enables keep, the interrupt bit, and what is turned away
+--   commands, bits, interrupts, registers, barred == the tables: commands through both registers, what enables keep, the interrupt bit, each register by
+--                   itself, and what is turned away
 --   address      == the writes of an address
 --   contents     == what registers hold, in bytes and as a number, of a core and of nine ports where no two counters are alike
 -- Assumes nothing.
@@ -12,6 +13,9 @@ use Prim.Native.Nat.{ℕ, _+_}
 use mathlib.Core.List.{List, [], _∷_, _++_}
 use lib.ListN.{replicate}
 use Rattle.ports.specs.Sets.{nobody}
+use Rattle.repeater.specs.Reset as Rep
+use Rattle.repeater.specs.Events.{afterInputs}
+use Rattle.repeater.specs.Commands.{reporting}
 use Rattle.record.specs.declared.Access.{Access}
 use Rattle.record.specs.declared.Access.the-variants.{WriteC, WriteD, ReadC, ReadD}
 use Rattle.host.specs.declared.Host.{Host}
@@ -23,7 +27,7 @@ use Rattle.attributes.specs.Nine.{nothingCounted, withPort}
 use Rattle.answer.specs.declared.Answer.{Answer}
 use Rattle.answer.specs.declared.Answer.the-variants.{Done, Value, Refused}
 use Rattle.chip.specs.declared.Core.{Core}
-use Rattle.chip.specs.Chip.{coreUp, withChanges}
+use Rattle.chip.specs.Chip.{coreUp, withRepeater, withChanges}
 use Rattle.access.specs.declared.Acted.{Acted}
 use Rattle.access.specs.Access.{served}
 
@@ -41,6 +45,10 @@ up = coreUp (record { «transmit_collisions» = 0; «total_octets» = 0 })
 -- TP0's partition bit and AUI's are one, and no other
 abbrev pub changed : Core
 changed = withChanges up (0b00000001 ∷ 0b10000000 ∷ replicate 6 0)
+
+-- status bits are one, among them that of TP1's bit rate errors
+abbrev pub reported : Core
+reported = withRepeater up (afterInputs Rep.powerUp reporting) (up .changes)
 
 pub record Row : Type 0 where
   pub core : Core
@@ -69,6 +77,9 @@ commands =
     (selected (Done ∷ Done ∷ Done ∷ Value 0x00 ∷ Done ∷ Value 0x01 ∷ []))
     -- through G: the error, and G as before
     ∷ from up (select 0 31 ++ (WriteD 0xff ∷ WriteD 0x10 ∷ ReadC ∷ ReadD ∷ [])) (selected (Done ∷ Done ∷ Value 0x40 ∷ Value 0x01 ∷ []))
+    -- a Get through S clears what it reports, too: the bit of TP1
+    ∷ from reported (select 0 30 ++ (WriteD 0xa0 ∷ WriteC 0xff ∷ ReadD ∷ WriteD 0xa0 ∷ ReadD ∷ []))
+    (selected (Done ∷ Done ∷ Value 0x02 ∷ Done ∷ Value 0x00 ∷ []))
     -- the device's version
     ∷ from up (select 0 28 ++ (ReadD ∷ [])) (selected (Value 0x01 ∷ []))
     ∷ []
@@ -94,6 +105,32 @@ interrupts =
     ∷ from changed (select 2 1 ++ (WriteD 0x80 ∷ ReadC ∷ [])) (selected (Done ∷ Value 0x80 ∷ []))
     ∷ from changed (select 2 2 ++ (WriteD 0xff ∷ ReadC ∷ [])) (selected (Done ∷ Value 0x00 ∷ []))
     ∷ from changed (select 2 0 ++ (WriteD 0xff ∷ WriteC 0x01 ∷ ReadD ∷ ReadC ∷ ReadD ∷ [])) (selected (Done ∷ Done ∷ Value 0x01 ∷ Value 0x00 ∷ Value 0x00 ∷ []))
+    ∷ []
+
+-- every change register holds another byte: each read gives its own, clears it and leaves the rest; so does each enable, which no read clears
+abbrev pub everyBit : Core
+everyBit = withChanges up (0x11 ∷ 0x80 ∷ 0x22 ∷ 0x80 ∷ 0x80 ∷ 0 ∷ 0x66 ∷ 0x80 ∷ [])
+
+unfoldable pub registers : List Row
+registers =
+    from everyBit (select 1 0 ++ (ReadD ∷ ReadD ∷ WriteC 0xe2 ∷ ReadD ∷ ReadD ∷ WriteC 0xe6 ∷ ReadD ∷ ReadD ∷ []))
+    (selected (Value 0x11 ∷ Value 0x00 ∷ Done ∷ Value 0x22 ∷ Value 0x00 ∷ Done ∷ Value 0x66 ∷ Value 0x00 ∷ []))
+    ∷ from everyBit (select 1 1 ++ (ReadD ∷ ReadD ∷ WriteC 0xe3 ∷ ReadD ∷ ReadD ∷ WriteC 0xe4 ∷ ReadD ∷ ReadD ∷ WriteC 0xe7 ∷ ReadD ∷ ReadD ∷ []))
+    (selected (Value 0x80 ∷ Value 0x00 ∷ Done ∷ Value 0x80 ∷ Value 0x00 ∷ Done ∷ Value 0x80 ∷ Value 0x00 ∷ Done ∷ Value 0x80 ∷ Value 0x00 ∷ []))
+    ∷ from up (select 2 0 ++ (WriteD 0x12 ∷ WriteC 0xe2 ∷ WriteD 0x34 ∷ WriteC 0xe0 ∷ ReadD ∷ ReadD ∷ WriteC 0xe2 ∷ ReadD ∷ []))
+    (selected (Done ∷ Done ∷ Done ∷ Done ∷ Value 0x12 ∷ Value 0x12 ∷ Done ∷ Value 0x34 ∷ []))
+    -- what a Get leaves in G is read as often as wanted; the C read clears the error alone
+    ∷ from up (select 0 31 ++ (WriteD 0x80 ∷ ReadD ∷ ReadD ∷ ReadC ∷ ReadD ∷ [])) (selected (Done ∷ Value 0xff ∷ Value 0xff ∷ Value 0x00 ∷ Value 0xff ∷ []))
+    -- a command is carried out through the wrong register too: here the link test of TP7 is switched off
+    ∷ from up (select 0 31 ++ (WriteD 0x47 ∷ WriteD 0xd0 ∷ ReadD ∷ [])) (selected (Done ∷ Done ∷ Value 0x80 ∷ []))
+    ∷ from up (select 0 30 ++ (WriteD 0x47 ∷ WriteD 0xd0 ∷ WriteC 0xff ∷ ReadD ∷ [])) (selected (Done ∷ Done ∷ Done ∷ Value 0x80 ∷ []))
+    -- and a Set that moves a link notes it: P 1 R 2
+    ∷ from up (select 0 30 ++ (WriteD 0x47 ∷ WriteC 0x01 ∷ WriteC 0xe2 ∷ ReadD ∷ [])) (selected (Done ∷ Done ∷ Done ∷ Value 0x80 ∷ []))
+    -- the interface error with the interrupt, and after it
+    ∷ from changed (select 2 0 ++ (WriteD 0x01 ∷ WriteC 0x00 ∷ WriteC 0xfe ∷ WriteD 0xff ∷ ReadC ∷ ReadC ∷ []))
+    (selected (Done ∷ Done ∷ Done ∷ Done ∷ Value 0xc0 ∷ Value 0x80 ∷ []))
+    -- at power-up P 0 R 0 is selected, which is not listed
+    ∷ from up (ReadD ∷ WriteD 0x10 ∷ []) (Refused 5 ∷ Refused 5 ∷ [])
     ∷ []
 
 -- 5, 6 and 4; a read that is turned away leaves the change bits

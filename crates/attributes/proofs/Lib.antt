@@ -1,7 +1,9 @@
--- Laws of what is kept of the nine ports, for the crates above; and of the credits.
+-- First the tables, computed; then laws of what is kept of the nine ports, for the crates above, and of the credits.
 pub mod Computing
+pub mod Sheet
+pub mod OctetCheck
 pub mod CreditLaws
 pub mod OneClass
 pub mod Sums
 pub mod NineLaws
-pub mod OctetCheck
+pub mod OctetAnswer

@@ -84,9 +84,10 @@ a-frame-counted = (refl, refl, refl, refl, refl, refl, refl, refl, refl, refl)
 an-address-written : (addressOf (readdressed 1 sender before) 1 ≡ sender)
     × (addressOf (readdressed 1 sender before) 2 ≡ replicate 6 0)
     × (counterOf (readdressed 1 sender before) 1 readableFrames ≡ 4294967295)
+    × (counterOf (readdressed 1 sender before) 1 addressChanges ≡ 0)
     × (readdressed 9 sender before ≡ before)
 unfolding crediting
-an-address-written = (refl, refl, refl, refl)
+an-address-written = (refl, refl, refl, refl, refl)
 
 no : {A : Type 0} {t : Bool} → t ≡ true → t ≡ false → A
 no p q = absurd (true≢false (sym p ∙ q))

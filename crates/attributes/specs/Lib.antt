@@ -3,4 +3,6 @@ pub mod Nine
 pub mod Credits
 pub mod OneClass
 pub mod Octets
+pub mod OctetAnswer
 pub mod Sums
+pub mod Sheet

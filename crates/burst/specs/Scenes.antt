@@ -9,6 +9,7 @@
 --                      again by the standard and by the alternate algorithm
 --   found           == what the definitions make of a row
 --   scenes          == the rows
+--   collidedWith    == the ports that collide, where these are sent to and listened to
 --   Report          == a row: what is sent to, the burst, and the status bits that it sets: B, S, L, the TP ports' bits, M
 --   reported        == what the definitions make of one
 --   reports         == the rows
@@ -96,6 +97,9 @@ scenes =
     ∷ scene 0b000000111 (activityOf 0b000000100 false true 2000 0) Rep 0b100000011 0b100000000 2 false false 0b000000111 0b000000111 0b000000011
     ∷ scene 0b000000111 (activityOf 0b000000000 false true 2000 0) Nil 0b000000000 0b100000000 nobody false false 0b000000000 0b000000000 0b000000000
     ∷ []
+
+abbrev pub collidedWith : ℕ → Activity → ℕ
+collidedWith sent activity = effectOf Bus.Nothing (heardWith sent sent activity) activity .collided
 
 pub record Report : Type 0 where
   pub sent : ℕ

@@ -1,2 +1,3 @@
 -- The change bits and their enables.
 pub mod Changes
+pub mod Sheet

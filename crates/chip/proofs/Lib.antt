@@ -1,2 +1,3 @@
--- Laws of the chip's state.
+-- First the tables, computed; then laws of the chip's state.
+pub mod Sheet
 pub mod ChipLaws

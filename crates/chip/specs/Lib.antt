@@ -1,2 +1,3 @@
 -- The chip's state.
 pub mod Chip
+pub mod Sheet

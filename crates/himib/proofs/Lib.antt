@@ -1,7 +1,8 @@
--- Laws of the definitions, and theorems that belong to no one function.
-pub mod HimibLaws
+-- First the tables, computed; then laws of the definitions, and theorems that belong to no one function.
 pub mod Computing
+pub mod Sheet
+pub mod Told
+pub mod HimibLaws
 pub mod StepLaws
 pub mod Runs
-pub mod Sheet
 pub mod Refused

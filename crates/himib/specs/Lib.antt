@@ -4,3 +4,4 @@ pub mod Step
 pub mod Refusals
 pub mod Runs
 pub mod Sheet
+pub mod Told

@@ -83,7 +83,7 @@ pub fn note(core: Core, nine: Nine, b: Burst, source: [u8; 6]) -> Noted
 }
 
 // A burst on the core and the attributes.
-pub fn burst(core: Core, nine: Nine, b: Burst, source: [u8; 6]) -> Credited
+pub(crate) fn burst(core: Core, nine: Nine, b: Burst, source: [u8; 6]) -> Credited
     ensures { λ r. ⌜ r ≡ burstOn core nine b source ⌝ }
 {
     let noted = note(core, nine, b, source);

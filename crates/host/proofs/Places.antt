@@ -12,6 +12,7 @@ use mathlib.Core.List.{List}
 use lib.ListN.{length, getD, set, List·getD-eq-default}
 use Rattle.host.specs.declared.Reading.{Reading}
 use Rattle.host.specs.declared.Writing.{Writing}
+use Rattle.host.proofs.AnyRecord.{either-first}
 use Rattle.host.specs.Sequence.{selected, restarted, withSelection, withSequence, placeFor, isLast, nextPlace, copied, readByte, wroteByte}
 
 module _ (b : ℕ) (h : Host) where
@@ -70,10 +71,6 @@ next-cases n i = go (isLast n i) refl
 pub alike : (w : Bool) → Bool·beq w w ≡ true
 alike true = refl
 alike false = refl
-
-pub either-first : (b : Bool) → _≡_ {A = ℕ} (cond b 0 0) 0
-either-first true = refl
-either-first false = refl
 
 module _ (n : ℕ) (h : Host) (bs : List ℕ) where
   pub goes-on : (w : Bool) (i : ℕ) → i < n → placeFor w n (withSequence h bs i w) ≡ i

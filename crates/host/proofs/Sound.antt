@@ -13,7 +13,8 @@ use Rattle.host.specs.Map.{rowAt, table}
 use Rattle.host.specs.Sequence.{powerUp, withSelection, withSequence, restarted, selected, placeFor, isLast, nextPlace, copied, readByte, wroteByte}
 use Rattle.host.specs.Sound.{Sound, selectedSize, Access, reset, select, read, write, afterAccesses}
 use Rattle.host.proofs.Listed.{size-six}
-use Rattle.host.proofs.Places.{next-cases, alike, either-first}
+use Rattle.host.proofs.AnyRecord.{either-first}
+use Rattle.host.proofs.Places.{next-cases, alike}
 
 pub sound-power-up : Sound powerUp
 sound-power-up =

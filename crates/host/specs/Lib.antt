@@ -6,3 +6,4 @@ pub mod Stands
 pub mod Sequence
 pub mod InARow
 pub mod Sound
+pub mod Sheet

@@ -1,3 +1,3 @@
--- Laws of the definitions, and the table of commands, computed.
-pub mod CommandLaws
+-- The tables, computed; then laws of the definitions.
 pub mod Listed
+pub mod CommandLaws

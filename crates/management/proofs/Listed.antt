@@ -1,10 +1,14 @@
--- Document 01, 'Commands': how many bytes are commands, and which of AUI's Gets clears what, computed. Assumes nothing.
+-- Document 01, 'Commands' and 'Reset and power-up': how many bytes are commands, which they are, which bits stay after each Get, and which are set by a
+-- burst, computed. Assumes nothing.
 use mathlib.Core.Path.{_≡_, refl}
+use mathlib.Core.Bool.{true, false}
 use mathlib.Core.List.{[], _∷_, map}
 use Rattle.management.specs.declared.Setting.the-variants.{AlternateAui, AlternateTp, DisableAui, EnableAui, DisableTp, EnableTp, LinkTestOff, LinkTestOn}
 use Rattle.management.specs.declared.Query.the-variants.{Aui, AuiClearB, AuiClearSl, AuiClearBsl, Partition, Rates, Link, Mjlp, Version}
 use Rattle.management.specs.declared.Command.the-variants.{Set, Get, Unlisted}
 use Rattle.management.specs.Commands.{commandOf, listedBelow}
+use Rattle.management.specs.Status.{clearStatus, marked, clearedBy}
+use Rattle.management.specs.Reported.{bits, all}
 
 -- 45 of 256: thirteen by themselves, and four rows of eight
 pub forty-five : listedBelow 256 ≡ 45
@@ -25,3 +29,40 @@ pub rows : map commandOf (0x20 ∷ 0x27 ∷ 0x28 ∷ 0x30 ∷ 0x37 ∷ 0x38 ∷ 
     ∷ []
 unfolding commandOf
 rows = refl
+
+-- the ports of a row, one by one
+pub ports-of-rows : map commandOf (0x21 ∷ 0x32 ∷ 0x43 ∷ 0x54 ∷ 0x26 ∷ 0x35 ∷ [])
+    ≡ Set (DisableTp 1) ∷ Set (EnableTp 2) ∷ Set (LinkTestOff 3) ∷ Set (LinkTestOn 4) ∷ Set (DisableTp 6) ∷ Set (EnableTp 5) ∷ []
+unfolding commandOf
+ports-of-rows = refl
+
+-- B, S, L, the TP ports' bits and M, all of them one before: what each Get leaves
+pub cleared : map (λ query. clearedBy query all) (AuiClearBsl ∷ AuiClearSl ∷ AuiClearB ∷ Aui ∷ Partition ∷ Rates ∷ Link ∷ Mjlp ∷ Version ∷ [])
+    ≡ bits false false false 0xff true
+    ∷ bits true false false 0xff true
+    ∷ bits false true true 0xff true
+    ∷ all
+    ∷ all
+    ∷ bits true true true 0 true
+    ∷ all
+    ∷ bits true true true 0xff false
+    ∷ all
+    ∷ []
+unfolding clearedBy
+cleared = refl
+
+-- a bit that is set stays, and each mark sets its own
+pub marks-stay : map (marked (bits false true false 0b00010010 false)) (clearStatus ∷ bits true false false 0 false ∷ bits false true false 0b00000011 false
+    ∷ bits false false true 0b10000000 false ∷ bits false false false 0 true ∷ [])
+    ≡ bits false true false 0b00010010 false
+    ∷ bits true true false 0b00010010 false
+    ∷ bits false true false 0b00010011 false
+    ∷ bits false true true 0b10010010 false
+    ∷ bits false true false 0b00010010 true
+    ∷ []
+unfolding marked
+marks-stay = refl
+
+-- at power-up, and after a reset
+pub nothing-reported : clearStatus ≡ bits false false false 0 false
+nothing-reported = refl

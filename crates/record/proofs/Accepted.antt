@@ -18,11 +18,10 @@ use Rattle.record.specs.Record.{Kind, kinds, find, used, unused, allZero
 use Rattle.record.specs.Refusals.{burstMaskEnd, pulseMaskEnd, longest, mostDribble, badNumbers, nothingActive, selectsNeither}
 use Rattle.record.specs.Refusals.{Row, refusals, firstOf, askedBy, answer, recordOf}
 use Rattle.record.specs.Accepted.{kindNumber, BurstBounds, Bounded}
-use Rattle.record.specs.Records.{noAddress, pulseRecord, tickRecord}
+use Rattle.record.specs.Records.{noAddress, from, pulseRecord, tickRecord}
 use Rattle.record.specs.declared.Asked.{Asked}
 use Rattle.record.specs.declared.Burst.{Burst}
 use Rattle.record.specs.declared.Record.{Record}
-use Rattle.record.proofs.Strays.{from}
 use Rattle.record.proofs.Sheet.{burst}
 
 clash : {X : Type 0} → true ≡ false → X

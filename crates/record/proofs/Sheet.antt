@@ -3,19 +3,19 @@
 --     zero-places           the bytes that must be zero, kind by kind
 --     burst                 the bytes of a burst from a chosen address
 --     sheet, sheet-holds    bytes with what they ask for, and that they do
+--     raw, as-written       the same with every byte that is not zero written out: the number of each kind, each flag, each field
 -- Assumes nothing.
 use Prim.Native.Nat.{ℕ}
 use mathlib.Core.Path.{_≡_, refl}
 use mathlib.Core.List.{List, [], _∷_, _++_, map}
-use mathlib.Core.Bool.{true, false}
+use mathlib.Core.Bool.{Bool, true, false}
 use lib.ListN.{set, replicate}
 use Rattle.ports.specs.declared.Quiet.{Quiet}
 use Rattle.record.specs.Record.{tickKind, cReadKind, bytesFrom, Kind, kinds, find, used, unused, mustBeZero, allZero, stray}
 use Rattle.record.specs.Refusals.{badNumbers, nothingActive, selectsNeither, refusals, firstOf, answer, refused, recordOf}
-use Rattle.record.specs.Records.{burstRecord, plainRecord, pulseRecord, tickRecord, cWriteRecord, dWriteRecord, cReadRecord, dReadRecord, resetRecord}
+use Rattle.record.specs.Records.{from, burstRecord, plainRecord, pulseRecord, tickRecord, cWriteRecord, dWriteRecord, cReadRecord, dReadRecord, resetRecord}
 use Rattle.record.specs.declared.Access.{Access}
 use Rattle.record.specs.declared.Asked.{Asked}
-use Rattle.record.proofs.Strays.{from}
 
 pub zero-places :
     map (λ (e : Kind). mustBeZero (e .uses)) kinds
@@ -171,6 +171,57 @@ sheet = kindLines ++ lengthLines ++ strayLines ++ maskLines ++ numberLines ++ po
 pub sheet-holds : map (λ (l : Line). recordOf (l .bytes) .asked) sheet ≡ map (λ (l : Line). l .asked) sheet
 unfolding recordOf answer firstOf refusals selectsNeither nothingActive badNumbers stray allZero unused used find bytesFrom
 sheet-holds = refl
+
+-- 32 zeros but for these bytes, by their place
+abbrev raw : List (ℕ × ℕ) → List ℕ
+raw [] = replicate 32 0
+raw (b ∷ bs) = set (raw bs) (b .0) (b .1)
+
+-- a burst of TP0 for 2 bit times, with this flag byte
+abbrev flags : ℕ → List ℕ
+flags f = raw ((0, 1) ∷ (1, f) ∷ (2, 1) ∷ (4, 2) ∷ [])
+
+-- the same, with its five flags
+abbrev marked : (fcs rate signal loopback sqe : Bool) → Asked
+marked fcs rate signal loopback sqe =
+    Asked.Burst
+    (record {
+      mask = 1;
+      «fcs_bad» = fcs;
+      «rate_error» = rate;
+      «collision_signal» = signal;
+      «loopback_missing» = loopback;
+      «sqe_test» = sqe;
+      d = 2;
+      n = 0;
+      k = 0;
+      c = 0;
+      x = 0;
+    })
+
+-- kinds 1 to 8 in order, the first with a number in every field, and 9; then each flag by itself
+abbrev rawLines : List Line
+rawLines =
+    line (raw ((0, 1) ∷ (2, 2) ∷ (3, 1) ∷ (4, 8) ∷ (5, 9) ∷ (6, 10) ∷ (8, 3) ∷ (9, 2) ∷ (10, 1) ∷ (12, 5) ∷ (16, 7) ∷ (17, 6) ∷ (18, 4) ∷ (20, 3) ∷ (21, 2) ∷ (22, 1) ∷ []))
+    (plain 0x0102 0x0a0908 0x010203 5 0x040607 0x010203)
+    ∷ line (raw ((0, 2) ∷ (2, 0xa5) ∷ [])) (Asked.Quiet (Quiet.Pulse 0xa5))
+    ∷ line (raw ((0, 3) ∷ [])) (Asked.Quiet Quiet.Tick)
+    ∷ line (raw ((0, 4) ∷ (13, 0xe3) ∷ [])) (Asked.Access (Access.WriteC 0xe3))
+    ∷ line (raw ((0, 5) ∷ (13, 0xe3) ∷ [])) (Asked.Access (Access.WriteD 0xe3))
+    ∷ line (raw ((0, 6) ∷ [])) (Asked.Access Access.ReadC)
+    ∷ line (raw ((0, 7) ∷ [])) (Asked.Access Access.ReadD)
+    ∷ line (raw ((0, 8) ∷ [])) Asked.Reset
+    ∷ line (raw ((0, 9) ∷ [])) (Asked.Refused 8)
+    ∷ line (flags 0b00001) (marked true false false false false)
+    ∷ line (flags 0b00010) (marked false true false false false)
+    ∷ line (flags 0b00100) (marked false false true false false)
+    ∷ line (flags 0b01000) (marked false false false true false)
+    ∷ line (flags 0b10000) (marked false false false false true)
+    ∷ []
+
+pub as-written : map (λ (l : Line). l .asked) rawLines ≡ map (λ (l : Line). recordOf (l .bytes) .asked) rawLines
+unfolding recordOf answer firstOf refusals selectsNeither nothingActive badNumbers stray allZero unused used find bytesFrom
+as-written = refl
 
 -- the source address, bytes 24 to 29 in order, and beside a refusal
 pub source-in-order : recordOf (burst 0 1 1000 64 0 0 0) .source ≡ address

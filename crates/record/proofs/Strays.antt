@@ -1,9 +1,8 @@
 -- The bytes that must be zero, by the sums and the tests with which the code asks for them.
---     from i n             the n places from i on
 --     stray-shared         what every kind but a burst leaves zero, as one sum
 --     stray-burst, -pulse, -write, -bare    row 8's condition for a burst, a pulse, a C write and a tick
 -- Assumes nothing.
-use Prim.Native.Nat.{ℕ, zero, suc, _+_}
+use Prim.Native.Nat.{ℕ, _+_}
 use mathlib.Core.Path.{_≡_, refl, sym, ap, _∙_}
 use mathlib.Core.List.{List, [], _∷_, _++_}
 use mathlib.Core.Bool.{Bool, true, false, _&&_, _||_, not, and-assoc, and-comm, or-comm, or-false}
@@ -13,11 +12,8 @@ use borrow.Author.Tests.{ne-eqb, eqb-true, eqb-false}
 use Rattle.spelling.specs.Spelling.{spelt}
 use Rattle.record.specs.Record.{kind, mask, written, byteAt, bytesFrom, bitAbove, lastFlag, find, used, unused, mustBeZero, allZero, stray}
 use Rattle.record.specs.Record.{burstKind, pulseKind, tickKind, cWriteKind}
+use Rattle.record.specs.Records.{from}
 use Rattle.record.proofs.Numbers.{same-zero}
-
-abbrev pub from : ℕ → ℕ → List ℕ
-from i zero = []
-from i (suc n) = i ∷ from (i + 1) n
 
 -- the sum of the bytes at these places
 unfoldable total : List ℕ → List ℕ → ℕ

@@ -3,8 +3,9 @@
 --     pulseRecord mask, tickRecord, cWriteRecord byte, dWriteRecord byte, cReadRecord, dReadRecord, resetRecord    the other kinds
 --     plainRecord kind mask written              a kind with at most a mask and a written byte
 --     noAddress                                  the address of six zeros
+--     from i n                                   the n places from i on
 -- Assumes nothing.
-use Prim.Native.Nat.{ℕ}
+use Prim.Native.Nat.{ℕ, zero, suc, _+_}
 use mathlib.Core.List.{List, [], _∷_, _++_}
 use lib.ListN.{replicate}
 use Rattle.spelling.specs.Spelling.{leastFirst}
@@ -12,6 +13,10 @@ use Rattle.record.specs.Record.{burstKind, pulseKind, tickKind, cWriteKi
 
 abbrev pub noAddress : List ℕ
 noAddress = replicate 6 0
+
+abbrev pub from : ℕ → ℕ → List ℕ
+from i zero = []
+from i (suc n) = i ∷ from (i + 1) n
 
 abbrev pub burstRecord : ℕ → ℕ → ℕ → ℕ → ℕ → ℕ → ℕ → List ℕ → List ℕ
 burstRecord mask flags d n k c x source =

@@ -1,5 +1,7 @@
--- Laws of the definitions, and theorems that belong to no one function.
+-- First the tables, computed; then laws of the definitions, and theorems that belong to no one function.
 pub mod Computing
+pub mod Sheet
+pub mod Commands
 pub mod DoorLaws
 pub mod MeetingLaws
 pub mod RepeaterLaws
@@ -7,4 +9,3 @@ pub mod Kept
 pub mod Hearing
 pub mod Events
 pub mod Sound
-pub mod Sheet

@@ -7,3 +7,4 @@ pub mod Repeater
 pub mod Events
 pub mod Sound
 pub mod Sheet
+pub mod Commands

@@ -99,7 +99,8 @@ shortcuts =
 
 -- 'Link (TP)' and the Sets that reach it: three pulses or four, a pulse and activity zero idle, a hundred silent ticks clear the pulses; failure
 -- neither reconnects nor zeroes the count; without link test no tick fails, and it starts at pass; enabling fails the link, disabling connects, and
--- neither does what is done already; while it is disabled a hundred ticks fail the link, and four pulses or activity bring it back
+-- neither does what is done already; while it is disabled a hundred ticks fail the link, and four pulses or activity bring it back; a burst while the
+-- link fails, so that the port is not in T, leaves count and partition
 abbrev pub links : List Row
 links =
     row (replicate 3 (pulse 1)) 0 (connected 0) false
@@ -123,6 +124,8 @@ links =
     ∷ row (passing ++ (setting (DisableTp 0) ∷ replicate 100 tick ++ replicate 3 (pulse 1))) 0 (connected 0) false
     ∷ row (passing ++ (setting (DisableTp 0) ∷ replicate 100 tick ++ replicate 4 (pulse 1))) 0 (connected 0) true
     ∷ row (passing ++ (setting (DisableTp 0) ∷ replicate 100 tick ++ (active 1 100 0 ∷ []))) 0 (connected 0) true
+    ∷ row (passing ++ replicate 31 (collision 300) ++ replicate 100 tick ++ (active 1 2000 0 ∷ [])) 0 (connected 31) true
+    ∷ row (parted ++ replicate 100 tick ++ (active 1 2000 0 ∷ [])) 0 partitioned true
     ∷ row (replicate 100 tick) 8 (connected 0) true
     ∷ []
 

@@ -1,0 +1,2 @@
+-- The tables of the change bits, computed.
+pub mod Sheet
