@@ -113,7 +113,7 @@ pub mod chip {
         !USED[kind as usize][at]
     }
 
-    fn number(bytes: &[u8], at: usize) -> u32 {
+    pub fn number(bytes: &[u8], at: usize) -> u32 {
         u32::from_le_bytes([bytes[at], bytes[at + 1], bytes[at + 2], bytes[at + 3]])
     }
 
@@ -1616,6 +1616,24 @@ pub mod program {
         }
     }
 
+    /// What the octet check says of pairs of readings: frames earlier and later, octets earlier and later.
+    pub fn octets() -> io::Result<()> {
+        let mut bytes = Vec::new();
+        io::stdin().lock().read_to_end(&mut bytes)?;
+        let mut lines = String::new();
+        for pair in bytes.chunks_exact(16) {
+            let frames = difference(number(pair, 0), number(pair, 4));
+            let octets = difference(number(pair, 8), number(pair, 12));
+            let said = match octet_check(frames, octets) {
+                Ok(true) => String::from("yes"),
+                Ok(false) => String::from("no"),
+                Err(refused) => refused.to_string(),
+            };
+            lines += &format!("{frames} {octets} {said}\n");
+        }
+        io::stdout().lock().write_all(lines.as_bytes())
+    }
+
     pub fn run(start: Attributes, with_reached: bool) -> io::Result<()> {
         let mut input = io::stdin().lock();
         let mut output = io::stdout().lock();
@@ -1661,10 +1679,12 @@ fn started() -> Result<(), String> {
     let mut start = chip::ZERO;
     let mut files = 0;
     for word in std::env::args().skip(1) {
-        if word == "--reached" {
+        if word == "--octets" {
+            return program::octets().map_err(|error| error.to_string());
+        } else if word == "--reached" {
             reached = true;
         } else if word.starts_with("--") || files == 1 {
-            return Err(format!("'{word}' is not understood; usage: model [--reached] [START] < TRACE"));
+            return Err(format!("'{word}' is not understood; usage: model [--reached] [START] < TRACE, or model --octets < PAIRS"));
         } else {
             start = start_file(&word)?;
             files += 1;

@@ -1,3 +1,5 @@
--- The proofs that blocks and lists are runs, and an instance that computes.
-pub mod Ties
+-- The proofs that blocks, lists and all readings are runs, instances that compute, and one outcome each. An instance stands in front.
 pub mod Instance
+pub mod Ties
+pub mod Outcomes
+pub mod Program

@@ -1,5 +1,6 @@
 -- A block is a run, turn by turn, and so is a list with the host's record lent. Assumes nothing.
 --   Went s w v j   == j turns over the input s lead from the work w to v
+--   ran            == a block that leaves less than a record is the run of its whole records
 --   block-is-a-run, lent-is-a-run == the two statements
 use Prim.Native.Nat.{ℕ, zero, suc, _+_, _*_, _-_, _/_, _^_, _≤_, _<_}
 use mathlib.Core.Path.{_≡_, refl, sym, ap, _∙_}
@@ -13,11 +14,11 @@ use Rattle.answer.specs.declared.Answer.{Answer}
 use Rattle.answer.specs.Line.{lineOf, linesOf}
 use Rattle.answer.specs.Put.{hasRoom}
 use Rattle.answer.proofs.Lines.{next-place, front, rest}
-use Rattle.himib.specs.Runs.{happening, historyOf, runOf, answersIn}
+use Rattle.himib.specs.Runs.{Point, happening, historyOf, runOf, answersIn}
 use Rattle.block.specs.Block.{Work, piece, afterRecord, worked, begun, blockOf}
 use Rattle.lent.specs.Lists.{cutOff}
 use Rattle.pass.specs.Judged.{history, run}
-use Rattle.ties.specs.Ties.{recordsIn, BlockIsARun, LentIsARun}
+use Rattle.ties.specs.Ties.{recordsIn, Ran, BlockIsARun, LentIsARun}
 
 abbrev ahead : List ℕ → Work → ℕ → List (List ℕ)
 ahead s w j = cutOff j (drop (w .at) s)
@@ -96,17 +97,19 @@ turned (suc k) s w h = go (hasRoom (w .out) (w .used)) refl (λ e. turned k s (a
         rw e (record { turns = suc (t .turns); most = omega (arith, t .most); went = g })
     go false e f = rw e (record { turns = 0; most = omega arith; went = none s w })
 
-cut-length : (k : ℕ) (bs : List ℕ) → length (cutOff k bs) ≡ k
+pub cut-length : (k : ℕ) (bs : List ℕ) → length (cutOff k bs) ≡ k
 unfolding cutOff
 cut-length zero bs = refl
 cut-length (suc k) bs = ap suc (cut-length k (drop recordLength bs))
 
-pub block-is-a-run : BlockIsARun
+-- a block that leaves less than a record is the run of all its whole records
+pub ran : (p : Point) (n : ℕ) (input out : List ℕ) (w : Work) → n + length input / recordLength < 2 ^ 64 → w ≡ blockOf p n input out
+    → length input - w .at < recordLength → Ran p n (recordsIn input) out w
 unfolding blockOf
-block-is-a-run p n input out w room low a =
-    let t : Turned input (begun p n out) w (length input / recordLength) = rw (a .is) (turned (length input / recordLength) input (begun p n out) low) in
+ran p n input out w low is less =
+    let t : Turned input (begun p n out) w (length input / recordLength) = rw is (turned (length input / recordLength) input (begun p n out) low) in
     let g : Went input (begun p n out) w (t .turns) = t .went in
-    let all : t .turns ≡ length input / recordLength = omega (arith, t .most, g .taken, a .all room) in
+    let all : t .turns ≡ length input / recordLength = omega (arith, t .most, g .taken, less) in
     let full : length (recordsIn input) ≡ t .turns = cut-length (length input / recordLength) input ∙ sym all in
     record {
       point = g .point ∙ rw all;
@@ -115,6 +118,9 @@ block-is-a-run p n input out w room low a =
       lines = g .lines ∙ rw all;
       rest = g .after;
     }
+
+pub block-is-a-run : BlockIsARun
+block-is-a-run p n input out w room low a = ran p n input out w low (a .is) (a .all room)
 
 pub lent-is-a-run : LentIsARun
 lent-is-a-run c bs = (refl, refl)
