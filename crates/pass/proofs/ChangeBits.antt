@@ -149,7 +149,7 @@ last x d h = omega arith
 rest : (x d : ℕ) → d < 2 → (x * 2 + d) / 2 ≡ x
 rest x d h = omega arith
 
-has-xor : (a b i : ℕ) → has (bitXor a b) i ≡ differs (has a i) (has b i)
+pub has-xor : (a b i : ℕ) → has (bitXor a b) i ≡ differs (has a i) (has b i)
 unfolding has
 has-xor a b zero =
     let x = bitXor (a / 2) (b / 2) in
@@ -174,7 +174,7 @@ eventBit r j part link loopback sqe address =
     (cond (eqb r 7) (eqb j 7 && address aui)
     false))))))
 
-bit7-at : (b : Bool) (j : ℕ) → has (bit7 b) j ≡ (eqb j 7 && b)
+pub bit7-at : (b : Bool) (j : ℕ) → has (bit7 b) j ≡ (eqb j 7 && b)
 bit7-at true j = has-power 7 j ∙ sym (and-true (eqb j 7))
 bit7-at false j = has-none j ∙ sym (and-false (eqb j 7))
 
@@ -192,15 +192,15 @@ events-at part link loopback sqe address (suc (suc (suc (suc (suc (suc (suc zero
 events-at part link loopback sqe address (suc (suc (suc (suc (suc (suc (suc (suc r)))))))) j h l = absurd (omega arith)
 
 -- two functions that are the same for the nine ports
-abbrev Same : (ℕ → Bool) → (ℕ → Bool) → Type 0
+abbrev pub Same : (ℕ → Bool) → (ℕ → Bool) → Type 0
 Same f g = (i : ℕ) → i < 9 → f i ≡ g i
 
-same-bit : (r j : ℕ) (p p' k k' a a' : ℕ → Bool) (l s : Bool) → j < 8 → Same p p' → Same k k' → Same a a' → eventBit r j p k l s a ≡ eventBit r j p' k' l s a'
+pub same-bit : (r j : ℕ) (p p' k k' a a' : ℕ → Bool) (l s : Bool) → j < 8 → Same p p' → Same k k' → Same a a' → eventBit r j p k l s a ≡ eventBit r j p' k' l s a'
 unfolding eventBit
 same-bit r j p p' k k' a a' l s h u v w =
     rw (u j (omega arith), u aui (omega arith), v j (omega arith), w j (omega arith), w aui (omega arith))
 
-abbrev nobody : ℕ → Bool
+abbrev pub nobody : ℕ → Bool
 nobody i = false
 
 -- nothing happened
@@ -208,7 +208,7 @@ no-choice : (b : Bool) → cond b false false ≡ false
 no-choice true = refl
 no-choice false = refl
 
-no-bit : (r j : ℕ) → eventBit r j nobody nobody false false nobody ≡ false
+pub no-bit : (r j : ℕ) → eventBit r j nobody nobody false false nobody ≡ false
 unfolding eventBit
 no-bit r j = simp (and-false, no-choice)
 
@@ -225,7 +225,7 @@ zeroed (x ∷ cs) (suc k) zero = rw (ne-eqb (suc k) 0 (λ e. omega arith))
 zeroed (x ∷ cs) (suc k) (suc r) = rw (eqb·suc-suc k r) (zeroed cs k r)
 
 -- bit j of register R of the core
-abbrev bitOf : ℕ → ℕ → Core → Bool
+abbrev pub bitOf : ℕ → ℕ → Core → Bool
 bitOf r j c = has (getD (c .changes) r 0) j
 
 noted-at : (es cs : List ℕ) (r j : ℕ) → r < length cs → has (getD (noted es cs) r 0) j ≡ (has (getD cs r 0) j || has (getD es r 0) j)
@@ -234,14 +234,14 @@ noted-at es cs r j h =
     ap (λ (n : ℕ). has n j) (each-at (λ r c. bitOr c (getD es r 0)) cs r 0 0 h) ∙ has-or (getD cs r 0) (getD es r 0) j
 
 -- the ports whose partition, and whose link, is another in x than in y
-abbrev partitionChanges : Repeater → Repeater → ℕ
+abbrev pub partitionChanges : Repeater → Repeater → ℕ
 partitionChanges x y = bitXor (partitionedOf x) (partitionedOf y)
 
-abbrev linkChanges : Repeater → Repeater → ℕ
+abbrev pub linkChanges : Repeater → Repeater → ℕ
 linkChanges x y = bitXor (linkedOf x) (linkedOf y)
 
 -- what moves the repeater adds its events to the bits
-moved-bit : (c : Core) (q : Repeater) (loopback sqe : Bool) (address r j : ℕ) → length (c .changes) ≡ 8 → r < 8 → j < 8
+pub moved-bit : (c : Core) (q : Repeater) (loopback sqe : Bool) (address r j : ℕ) → length (c .changes) ≡ 8 → r < 8 → j < 8
     → bitOf r j (moved c q loopback sqe address)
     ≡ (bitOf r j c || eventBit r j (has (partitionChanges (c .repeater) q)) (has (linkChanges (c .repeater) q)) loopback sqe (has address))
 unfolding moved
@@ -271,7 +271,7 @@ record Firm (p : Point) : Type 0 where
   pub fit : Fit p
 
 -- as many change registers as before
-moved-length : (c : Core) (q : Repeater) (loopback sqe : Bool) (address : ℕ) → length (moved c q loopback sqe address .changes) ≡ length (c .changes)
+pub moved-length : (c : Core) (q : Repeater) (loopback sqe : Bool) (address : ℕ) → length (moved c q loopback sqe address .changes) ≡ length (c .changes)
 unfolding moved noted
 moved-length c q loopback sqe address =
     let events = eventsOf (partitionChanges (c .repeater) q) (linkChanges (c .repeater) q) loopback sqe address in
@@ -312,7 +312,7 @@ between r j loopback sqe x y nine next =
     eventBit r j (λ i. differs (has (partitionedOf x) i) (has (partitionedOf y) i)) (λ i. differs (has (linkedOf x) i) (has (linkedOf y) i))
     loopback sqe (countedIn nine next)
 
-differs-self : (b : Bool) → differs b b ≡ false
+pub differs-self : (b : Bool) → differs b b ≡ false
 differs-self true = refl
 differs-self false = refl
 

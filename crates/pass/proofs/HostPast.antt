@@ -1,6 +1,7 @@
 -- Demand 3, the host's record by the past alone. Assumes nothing.
 --   selection-by-past      == P and R
 --   address-writes-by-past == the bytes of an address write
+--   Row, written-on, whole-at, bytes-at == what the host's record holds of bytes written in a row, for the crates above
 use Prim.Native.Nat.{ℕ, suc, _+_, _-_, _/_, _%_, _≤_, _<_}
 use mathlib.Core.Path.{_≡_, refl, sym, ap, _∙_}
 use mathlib.Core.Bool.{Bool, true, false, cond, _&&_, _||_, false≢true}
@@ -131,7 +132,7 @@ last-six k = go (leb 6 (k % 6 + 1)) refl
     go false e = let m = leb-false 6 (k % 6 + 1) e in e ∙ sym (ne-eqb ((k + 1) % 6) 0 (λ z. omega arith))
 
 -- the bytes that a register of six holds of a row, and one byte more
-abbrev Held : List ℕ → List ℕ → Type 0
+abbrev pub Held : List ℕ → List ℕ → Type 0
 Held bytes w = take (length w % 6) bytes ≡ drop (length w - length w % 6) w
 
 module _ (bytes w : List ℕ) (b : ℕ) (six : length bytes ≡ 6) (held : Held bytes w) where
@@ -170,20 +171,20 @@ module _ (bytes w : List ℕ) (b : ℕ) (six : length bytes ≡ 6) (held : Held 
       let y : length more - 6 ≡ length w - at = omega (arith, longer) in
       sym (take-all (suc at) (set bytes at b) (omega (arith, length-set bytes at b))) ∙ rw y one-further
 
-record Row (h : Host) (w : List ℕ) : Type 0 where
-  six : length (h .bytes) ≡ 6
-  place : selectedBy h .size ≡ 6 → placeFor true 6 h ≡ length w % 6
-  held : selectedBy h .size ≡ 6 → Held (h .bytes) w
+pub record Row (h : Host) (w : List ℕ) : Type 0 where
+  pub six : length (h .bytes) ≡ 6
+  pub place : selectedBy h .size ≡ 6 → placeFor true 6 h ≡ length w % 6
+  pub held : selectedBy h .size ≡ 6 → Held (h .bytes) w
 
 -- a row begins where the next write takes the first byte
-begun : (h : Host) → length (h .bytes) ≡ 6 → placeFor true 6 h ≡ 0 → Row h []
+pub begun : (h : Host) → length (h .bytes) ≡ 6 → placeFor true 6 h ≡ 0 → Row h []
 begun h six first = record { six = six; place = λ z. first; held = λ z. refl }
 
-up-first : placeFor true 6 powerUp ≡ 0
+pub up-first : placeFor true 6 powerUp ≡ 0
 unfolding placeFor
 up-first = refl
 
-written-on : (h : Host) (w : List ℕ) (b : ℕ) → Row h w → Row (wroteByte (selectedBy h .size) b h .host) (w ++ b ∷ [])
+pub written-on : (h : Host) (w : List ℕ) (b : ℕ) → Row h w → Row (wroteByte (selectedBy h .size) b h .host) (w ++ b ∷ [])
 unfolding wroteByte
 written-on h w b r = record {
   six = length-set (h .bytes) _ b ∙ r .six;
@@ -213,10 +214,10 @@ selected-six b h = go (eqb (b / 32) 0b000) (eqb (b / 32) 0b111)
     go false false = refl
 
 -- every register's value is six bytes, if every port's address is
-abbrev Sixes : Nine → Type 0
+abbrev pub Sixes : Nine → Type 0
 Sixes nine = (i : ℕ) → i < 9 → length (addressOf nine i) ≡ 6
 
-copied-six : (i : ℕ) (v bs : List ℕ) → length v ≡ 6 → length bs ≡ 6 → length (copied i v bs) ≡ 6
+pub copied-six : (i : ℕ) (v bs : List ℕ) → length v ≡ 6 → length bs ≡ 6 → length (copied i v bs) ≡ 6
 unfolding copied
 copied-six i v bs l m = go (eqb i 0)
   where
@@ -246,7 +247,7 @@ module _ (c : Core) (nine : Nine) (h : Host) (w : List ℕ) (row : Row h w) wher
 
 -- ONE RECORD
 
-source-six : (bs : List ℕ) → length (recordOf bs .source) ≡ 6
+pub source-six : (bs : List ℕ) → length (recordOf bs .source) ≡ 6
 unfolding recordOf answer bytesFrom
 source-six bs = go (firstOf (refusals bs))
   where
@@ -290,6 +291,21 @@ address-size p r i e =
     let k = every-row (λ w. isAddress i (w .role)) (λ w. eqb (w .size) 6 && isAddress i (w .role)) p r (λ j q. refl) in
     eqb-true (rowAt p r .size) 6 (and-first (eqb (rowAt p r .size) 6) (isAddress i (rowAt p r .role)) (sym k ∙ e))
 
+-- a write to a register of six bytes completes at every sixth of the row, with the last six
+module _ (h : Host) (w : List ℕ) (b : ℕ) (row : Row h w) (z : selectedBy h .size ≡ 6) where
+  pub whole-at : wroteByte (selectedBy h .size) b h .complete ≡ eqb (length (w ++ b ∷ []) % 6) 0
+  unfolding wroteByte
+  whole-at = rw (z, row .place z, length-append w (b ∷ [])) (last-six (length w))
+
+  pub bytes-at : wroteByte (selectedBy h .size) b h .complete ≡ true
+      → wroteByte (selectedBy h .size) b h .host .bytes ≡ drop (length (w ++ b ∷ []) - 6) (w ++ b ∷ [])
+  unfolding wroteByte
+  bytes-at e =
+      let f = eqb-true (length (w ++ b ∷ []) % 6) 0 (sym whole-at ∙ e) in
+      let g = length-append w (b ∷ []) in
+      let five : length w % 6 ≡ 5 = omega arith in
+      rw (z, row .place z) (last-of-six (h .bytes) w b (row .six) (row .held z) five)
+
 module _ (c : Core) (h : Host) (w : List ℕ) (b i : ℕ) (row : Row h w) where
   abbrev size : ℕ
   size = selectedBy h .size
@@ -312,18 +328,6 @@ module _ (c : Core) (h : Host) (w : List ℕ) (b i : ℕ) (row : Row h w) where
   unfolding accepted
   away k = (refl, λ z. absurd (false≢true z))
 
-  whole-at : size ≡ 6 → whole ≡ eqb (length (w ++ b ∷ []) % 6) 0
-  unfolding wroteByte
-  whole-at z = rw (z, row .place z, length-append w (b ∷ [])) (last-six (length w))
-
-  bytes-at : size ≡ 6 → whole ≡ true → wroteByte size b h .host .bytes ≡ drop (length (w ++ b ∷ []) - 6) (w ++ b ∷ [])
-  unfolding wroteByte
-  bytes-at z e =
-      let f = eqb-true (length (w ++ b ∷ []) % 6) 0 (sym (whole-at z) ∙ e) in
-      let g = length-append w (b ∷ []) in
-      let five : length w % 6 ≡ 5 = omega arith in
-      rw (z, row .place z) (last-of-six (h .bytes) w b (row .six) (row .held z) five)
-
   sixth-written : Sixth (stored (selectedBy h) c h b)
   unfolding accepted
   sixth-written = go here refl
@@ -333,7 +337,7 @@ module _ (c : Core) (h : Host) (w : List ℕ) (b i : ℕ) (row : Row h w) where
           × ((t && whole) ≡ true → wroteByte size b h .host .bytes ≡ drop (length (w ++ b ∷ []) - 6) (w ++ b ∷ []))
       go true e =
           let z : size ≡ 6 = address-size (h .page) (h .register) i e in
-          (whole-at z, bytes-at z)
+          (whole-at h w b row z, bytes-at h w b row z)
       go false e = (refl, λ z. absurd (false≢true z))
 
   sixth : Sixth (dWriteOf c h b)

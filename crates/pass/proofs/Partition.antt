@@ -213,7 +213,7 @@ module _ (i : ℕ) (l : i < 16) where
   }
 
 -- a port's bit in the mask tells its standing
-standing-test : (p : Port) → isPartitioned (standingOf p) ≡ p .partitioned
+pub standing-test : (p : Port) → isPartitioned (standingOf p) ≡ p .partitioned
 standing-test p = go (p .partitioned) refl
   where
     go : (b : Bool) → p .partitioned ≡ b → isPartitioned (standingOf p) ≡ p .partitioned

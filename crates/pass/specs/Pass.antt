@@ -1,13 +1,14 @@
 -- What a pass means: the three demands, over any list of records from power-up. This file and the definitions that it cites are what a reader must believe;
--- proofs/ shows that each statement holds, and docs/PASS.md has the same in plain English, line by line. Nothing here looks into the mechanism that is
--- promised: a change of a port's state is seen by comparing the chip before and after a record, and not by a change bit.
+-- proofs/ shows that each statement holds, and docs/PASS.md has the same in plain English, line by line. A change of a port's state is seen by comparing the
+-- chip before and after a record, and not by a change bit. What a burst is to a port, and what it is due, are taken from the definitions that the code is held
+-- to; the crate alone says all of it once more by the records that came before, where nothing of the chip occurs.
 -- Assumes nothing.
 use Prim.Native.Nat.{ℕ, _+_, _*_, _%_, _^_, _≤_, _<_}
 use mathlib.Core.Path.{_≡_}
 use mathlib.Core.Bool.{Bool, true, false, cond, not, _&&_, _||_, Bool·beq}
 use mathlib.Core.List.{List, [], _∷_, map}
 use mathlib.Core.Option.{Option, none, some}
-use lib.Dec.{eqb}
+use lib.Dec.{eqb, ltb}
 use lib.ListN.{length, getD, take}
 use Rattle.spelling.specs.Spelling.{spelt}
 use Rattle.ports.specs.Sets.{aui, has, without}
@@ -249,6 +250,13 @@ isAddress i (role.Cleared k) = false
 isAddress i (role.Commands g) = false
 isAddress i (role.Enables k) = false
 isAddress i (role.Address k) = eqb k i
+
+-- what takes the address of port k, by the P and R that the host selected: TP0 to TP7 at P 16 to 23, AUI at P 31, each at R 14, and nothing else
+abbrev pub addressStands : ℕ → ℕ → ℕ → Bool
+addressStands p r k = eqb r 14 && ((ltb k 8 && eqb p (16 + k)) || (eqb k 8 && eqb p 31))
+
+abbrev pub AddressesByPlace : Type 0
+AddressesByPlace = (p r k : ℕ) → isAddress k (rowAt p r .role) ≡ addressStands p r k
 
 abbrev pub completes : ℕ → Happening → Bool
 completes i h =

@@ -1,0 +1,22 @@
+-- The past alone.
+pub mod Instances
+pub mod Did
+pub mod Listed
+pub mod AtPort
+pub mod Settings
+pub mod Link
+pub mod LinkSheet
+pub mod Bursts
+pub mod Partition
+pub mod Credits
+pub mod Rows
+pub mod Counted
+pub mod CommandBytes
+pub mod Status
+pub mod Interrupt
+pub mod Noting
+pub mod Noticed
+pub mod Sequenced
+pub mod Values
+pub mod Whole
+pub mod ShownByPast

@@ -1,0 +1,6 @@
+-- The past alone.
+pub mod Doing
+pub mod Seen
+pub mod Selected
+pub mod Judged
+pub mod Alone

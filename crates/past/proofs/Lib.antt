@@ -1,0 +1,4 @@
+-- What follows from the definitions alone.
+pub mod Computing
+pub mod Sheet
+pub mod Crowds
