@@ -1,0 +1,41 @@
+-- What a line of `tell` says. Assumes nothing.
+--   same-answer  == it begins with the line of the run program
+--   as-c-reads   == its word for interrupt and interface error is the byte that a C read of the same chip gives
+--   moved-where  == a port is in the word of a counter exactly if that counter of it differs
+use Prim.Native.Nat.{ℕ, _+_, _-_, _<_}
+use mathlib.Core.Path.{_≡_, refl, sym, ap, _∙_}
+use mathlib.Core.List.{List, [], _∷_, _++_}
+use native.Mathlib.Omega.{arith}
+use lib.ListN.{length, length-append, take}
+use lib.Seq.{take-at}
+use Rattle.ports.specs.Sets.{portCount, has, gather}
+use Rattle.ports.proofs.Sets.{has-gather}
+use Rattle.host.specs.declared.Host.{Host}
+use Rattle.answer.specs.declared.Answer.{Answer}
+use Rattle.answer.specs.declared.Answer.the-variants.{Value}
+use Rattle.answer.specs.Line.{newline, lineOf}
+use Rattle.attributes.specs.declared.Nine.{Nine}
+use Rattle.attributes.specs.Nine.{counterOf}
+use Rattle.chip.specs.declared.Core.{Core}
+use Rattle.access.specs.Access.{cReadOf}
+use Rattle.himib.specs.Runs.{Happening}
+use Rattle.telling.specs.Telling.{spoken, spelt, toldAs, differ, movedOf, statusOf, wordsOf, tellOf, SameAnswer}
+use Rattle.telling.proofs.TellingLaws.{said-line}
+
+pub same-answer : SameAnswer
+unfolding tellOf toldAs
+same-answer n h =
+    let front : List ℕ = spoken n (h .answer) in
+    let k : length front ≡ length (lineOf n (h .answer)) - 1 =
+    rw (said-line n (h .answer)) (omega (arith, length-append front (newline ∷ []))) in
+    ap (λ (l : List ℕ). l ++ (newline ∷ []))
+    (take-at front (spelt (wordsOf (h .before .chip) (h .after .chip) (h .after .host)) ++ (newline ∷ [])) (length (lineOf n (h .answer)) - 1) k)
+    ∙ sym (said-line n (h .answer))
+
+pub as-c-reads : (c : Core) (h : Host) → cReadOf c h .answer ≡ Value (statusOf c)
+unfolding cReadOf
+as-c-reads c h = refl
+
+pub moved-where : (before after : Nine) (r i : ℕ) → i < portCount → has (movedOf before after r) i ≡ differ (counterOf before i r) (counterOf after i r)
+unfolding movedOf
+moved-where before after r i h = has-gather 9 (λ i. differ (counterOf before i r) (counterOf after i r)) i h
