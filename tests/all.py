@@ -8,7 +8,8 @@ import time
 from pathlib import Path
 
 HERE = Path(__file__).resolve().parent
-TESTS = ('text_form', 'traces', 'reference', 'verbs', 'picture', 'client', 'c_client', 'building', 'tutorial', 'robust')
+TESTS = ('text_form', 'traces', 'check', 'reference', 'verbs', 'picture', 'client', 'c_client', 'wrong_programs', 'run_log',
+         'version', 'status', 'big', 'building', 'tutorial', 'robust')
 
 
 def main():

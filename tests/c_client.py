@@ -30,7 +30,7 @@ int main(int count, char **words)
     struct roverivet chip;
     struct roverivet_answer answer;
     unsigned char record[ROVERIVET_SIZE];
-    const char *command[] = {words[2], NULL};
+    const char *command[] = {words[2], "run", NULL};
     if (count < 3 || roverivet_open(&chip, command, NULL)) return 9;
     roverivet_record(record, ROVERIVET_TICK);
     if (roverivet_ask(&chip, record, &answer) || strcmp(answer.word, "ok")) return 8;
@@ -65,9 +65,7 @@ def main():
             print('the sample: a frame, 32 collisions, their counters')
         source = Path(folder) / 'harness.c'
         source.write_text(HARNESS)
-        run = Path(folder) / 'run'
-        run.write_text(f'#!/bin/sh\nexec "{TOP}/roverivet" run\n')
-        run.chmod(0o755)
+        run = TOP / 'roverivet'
         if compiled(source, 'harness'):
             died = subprocess.run([f'{folder}/harness', 'die', str(run)], capture_output=True, text=True, timeout=60)
             checks.equal(died.returncode, -9, 'a harness that dies')

@@ -1,5 +1,5 @@
 #!/usr/bin/env -S python3 -B
-"""Writes the traces that walk through whole tables, with their expected lines.
+"""Writes the traces that walk through whole tables, with their expected answers.
 
     tests/derive.py           writes them to traces/
     tests/derive.py --check   compares what is there, and writes nothing
@@ -13,6 +13,7 @@ import sys
 from pathlib import Path
 
 TRACES = Path(__file__).resolve().parents[1] / 'traces'
+START = 'registers.start'
 
 # Table 3-1 as document 01 takes it over: code, Set or Get, and what a Get gives just after a reset.
 # Not taken over: programmable options 0000 1CSA, polarity 0110 0###, 0111 0### and 1110 0000.
@@ -56,24 +57,18 @@ NAMES = ['Readable Frames', 'Readable Octets', 'FCS Errors', 'Alignment Errors',
 
 
 class Trace:
-    """A text and its expected lines, written side by side."""
+    """A text, each record with its expected answer behind it."""
 
-    def __init__(self, name, *remarks):
+    def __init__(self, name, *remarks, start=None):
         self.name = name
-        self.text = [f'# {remark}' for remark in remarks] + ['# Written by tests/derive.py.']
-        self.expected = [f'# {name}: derived by tests/derive.py from the tables of document 01.']
-        self.count = 0
+        self.text = [f'# {remark}' for remark in remarks] + ['# Written by tests/derive.py from the tables of document 01.']
+        self.text += [f'start = {start}'] if start else []
 
     def line(self, record, answer):
-        self.count += 1
-        self.text.append(record)
-        self.expected.append(f'{self.count} {answer}')
+        self.text.append(f'{record:<12} => {answer}')
 
-    def remark(self, words):
-        self.text.append(f'# {words}')
-
-    def files(self):
-        return {f'{self.name}.txt': self.text, f'{self.name}.expected': self.expected}
+    def file(self):
+        return {f'{self.name}.txt': self.text}
 
 
 # ---- commands
@@ -144,7 +139,7 @@ def start_file():
         lines.append(f'{name} address = {":".join(f"{byte:02x}" for byte in address(port))}')
     lines.append(f'Transmit Collisions = {int.from_bytes(bytes(TRANSMIT_COLLISIONS), "little")}')
     lines.append(f'Total Octets = {int.from_bytes(bytes(TOTAL_OCTETS), "little")}')
-    return {'registers.start.txt': lines}
+    return {START: lines}
 
 
 def held(bank, number):
@@ -162,7 +157,7 @@ def read_answer(table, pair):
 
 def registers_read():
     trace = Trace('registers-read', 'All 1,024 pairs of P and R, one D read each. The start file gives every',
-                  'counter its own value, so that a register in the wrong place is seen.')
+                  'counter its own value, so that a register in the wrong place is seen.', start=START)
     table = register_table()
     for bank in range(32):
         trace.line(f'c-write P={bank}', 'ok')
@@ -174,7 +169,7 @@ def registers_read():
 
 def registers_written():
     trace = Trace('registers-written', 'All 1,024 pairs of P and R, one D write each and a D read after it.',
-                  'S takes 10 and G takes ff, which are commands; every other register is offered ff.')
+                  'S takes 10 and G takes ff, which are commands; every other register is offered ff.', start=START)
     table = register_table()
     for bank in range(32):
         trace.line(f'c-write P={bank}', 'ok')
@@ -199,7 +194,7 @@ def after_write(table, pair):
 
 def registers_whole():
     trace = Trace('registers-byte-by-byte', 'Every register of four or six bytes, all bytes and the first again:',
-                  'least significant first, and the sequence restarts after the last.')
+                  'least significant first, and the sequence restarts after the last.', start=START)
     for (bank, number), (size, _) in sorted(register_table().items()):
         if size > 1:
             trace.line(f'c-write P={bank}', 'ok')
@@ -213,7 +208,7 @@ def derived():
     """{file name: its lines} of everything that this script writes."""
     files = start_file()
     for trace in (commands(30, 'Get'), commands(31, 'Set'), registers_read(), registers_written(), registers_whole()):
-        files.update(trace.files())
+        files.update(trace.file())
     return files
 
 

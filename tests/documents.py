@@ -1,14 +1,15 @@
 #!/usr/bin/env -S python3 -B
-"""Holds README.md, docs/MAP.md, docs/PASS.md and docs/changes/ to the repository.
+"""Holds README.md, docs/MAP.md, docs/PASS.md, docs/RULES.md and docs/changes/ to the repository.
 
     tests/documents.py               every name is there, promises and edits match, README's commands print what it says
     tests/documents.py --functions   prints the public functions as docs/PASS.md has to list them
 
-In docs/MAP.md and docs/PASS.md whatever stands in backquotes is a name, in one of these forms:
+In docs/MAP.md, docs/PASS.md and docs/RULES.md whatever stands in backquotes is a name, in one of these forms:
 
     record/specs/Record: place, kinds     definitions, theorems, functions or types in a file of a crate
     record/specs/Record                   such a file
     record/must-fail/order_2_and_1        an edit that the check must refuse
+    tests/planted: two_are_one, m_stays   wrong rules that tests/rules.py plants
     traces/sample                         a trace of traces/LIST
     tests/compare.py                      any file or folder, from the top
 
@@ -24,20 +25,25 @@ import subprocess
 import sys
 
 from checks import Checks, TOP, roverivet_command
+from planted import RULES, misplaced
 from tutorial import steps
 
 import roverivet
 from tools import build
 
-MAP, PASS, README = TOP / 'docs' / 'MAP.md', TOP / 'docs' / 'PASS.md', TOP / 'README.md'
+MAP, PASS, PLANTED, README = TOP / 'docs' / 'MAP.md', TOP / 'docs' / 'PASS.md', TOP / 'docs' / 'RULES.md', TOP / 'README.md'
 NOTES = TOP / 'docs' / 'changes'
-STATEMENTS = TOP / 'crates' / 'pass' / 'specs' / 'Pass.antt'
+STATEMENTS = [TOP / 'crates' / crate / 'specs' / f'{name}.antt' for crate, name in (('pass', 'Pass'), ('pass', 'HostPast'), ('alone', 'Alone'))]
 KEYS = ['demand', 'sentence', 'section', 'statement', 'theorem', 'instance', 'edits', 'says not']
 UNFINISHED = 'PENDING'
 GONE = 'before'
+PARTS = ('port', 'burst', 'management', 'repeater')
+ABOVE = ('chip', 'access', 'himib')
+TOLD = {'repeater::Repeater', 'management::decode', 'management::Command', 'management::Query', 'management::Setting', 'burst::Activity'}
 SYSTEM = ('/dev', '/proc', '/usr/bin/env', '/bin/sh')
 IN_CRATE = re.compile(r'(\w+)/(specs|proofs|src)/([\w/]+)(?:: (.+))?')
 EDIT = re.compile(r'(\w+)/must-fail/(\w+)')
+RULE = re.compile(r'tests/planted: (.+)')
 EDIT_NAME = re.compile(r'[a-z][a-z0-9]*(?:_[a-z0-9]+)*')
 ALONE = re.compile(r"[\w'-]+(?:::[\w'-]+)*")
 ABSOLUTE = re.compile(r'(?:^|[\s"\'`(=:!])(/[A-Za-z][\w.-]*(?:/[\w.-]+)*)')
@@ -100,6 +106,10 @@ def traces():
     return [row.split()[0] for row in rows if row.strip() and not row.startswith('#')]
 
 
+def rule_names():
+    return [rule.name for rule in RULES]
+
+
 def missing(name):
     """Why a name names nothing, or None."""
     found = IN_CRATE.fullmatch(name)
@@ -114,6 +124,10 @@ def missing(name):
     if found:
         path = TOP / 'crates' / found[1] / 'must-fail' / f'{found[2]}.edit'
         return None if path.is_file() else f'there is no {shown(path)}'
+    found = RULE.fullmatch(name)
+    if found:
+        absent = [word for word in found[1].split(', ') if word not in rule_names()]
+        return f'tests/planted.py has no {", ".join(absent)}' if absent else None
     if name.startswith('traces/') and '.' not in name and name != 'traces/LIST':
         return None if name.removeprefix('traces/') in traces() else 'traces/LIST does not name it'
     return None if (TOP / name).exists() else 'there is no such file'
@@ -140,7 +154,7 @@ def missing_now(name):
 
 def named(checks):
     notes, tried = sorted(NOTES.glob('*.md')), 0
-    for page, lines, lookup in [(MAP, lines_of, missing), (PASS, lines_of, missing), *((note, present, missing_now) for note in notes)]:
+    for page, lines, lookup in [(MAP, lines_of, missing), (PASS, lines_of, missing), (PLANTED, lines_of, missing), *((note, present, missing_now) for note in notes)]:
         for number, line in lines(page):
             if UNFINISHED in line:
                 continue
@@ -148,7 +162,7 @@ def named(checks):
                 tried += 1
                 reason = lookup(name)
                 checks.check(reason is None, f'{shown(page)}:{number}: {name}', reason)
-    print(f'{tried} names in docs/MAP.md, docs/PASS.md and {len(notes)} pages of docs/changes')
+    print(f'{tried} names in docs/MAP.md, docs/PASS.md, docs/RULES.md and {len(notes)} pages of docs/changes')
 
 
 def finished(checks):
@@ -199,7 +213,7 @@ def file_of(name):
 
 
 def promises(checks):
-    """Each statement of Pass.antt has its entries and one theorem, and an instance above it."""
+    """Each statement of the crates pass and alone has its entries and one theorem, and an instance above it."""
     listed = entries(checks)
     ids = [entry[0] for entry in listed]
     checks.equal(sorted(set(ids)), sorted(ids), 'docs/PASS.md: each id stands once')
@@ -210,7 +224,7 @@ def promises(checks):
         if list(fields) != KEYS or UNFINISHED in fields['theorem']:
             continue
         statement, theorem, instance = (file_of((names_in(fields[key]) or [''])[0]) for key in ('statement', 'theorem', 'instance'))
-        if statement and statement[0] == STATEMENTS and theorem:
+        if statement and statement[0] in STATEMENTS and theorem:
             kind, parts = statement[1][0], statement[1][1:]
             stated.append((kind, *parts))
             proofs.setdefault(kind, set()).add(theorem[0])
@@ -220,11 +234,11 @@ def promises(checks):
         if theorem and instance and theorem[0] == instance[0]:
             checks.check(0 < line_of(instance[0], instance[1][0]) < line_of(theorem[0], theorem[1][0]),
                          f'{where}: the instance stands above the theorem')
-    kinds = re.findall(r'^abbrev pub (\w+) : Type [01]$', STATEMENTS.read_text(), re.MULTILINE)
-    same(checks, {kind for kind, *_ in stated}, kinds, 'docs/PASS.md has the statements of Pass.antt')
+    kinds = [kind for path in STATEMENTS for kind in re.findall(r'^abbrev pub (\w+) : Type [01]$', path.read_text(), re.MULTILINE)]
+    same(checks, {kind for kind, *_ in stated}, kinds, 'docs/PASS.md has the statements of crates/pass/specs and crates/alone/specs')
     checks.equal(len(set(stated)), len(stated), 'docs/PASS.md: no part of a statement has two entries')
     checks.check(all(len(files) == 1 for files in proofs.values()), 'docs/PASS.md: each statement has one theorem')
-    print(f'{len(listed)} promises, {len(kinds)} statements of Pass.antt')
+    print(f'{len(listed)} promises, {len(kinds)} statements')
 
 
 def told_edits(page):
@@ -233,11 +247,12 @@ def told_edits(page):
 
 
 def edits(checks):
-    """Every edit is named in docs/PASS.md (all of the crate pass are) or docs/MAP.md, has a name of its own, and says first what it breaks."""
+    """Every edit is named in docs/PASS.md (all of the crates pass, past and alone are) or docs/MAP.md, has a name of its own, and says first what it breaks."""
     every = sorted(TOP.glob('crates/*/must-fail/*.edit'))
     there = {(path.parents[1].name, path.stem) for path in every}
-    same(checks, {edit for crate, edit in told_edits(PASS) if crate == 'pass'}, {edit for crate, edit in there if crate == 'pass'},
-         'docs/PASS.md has the edits of the crate pass')
+    for promising in ('pass', 'past', 'alone'):
+        same(checks, {edit for crate, edit in told_edits(PASS) if crate == promising}, {edit for crate, edit in there if crate == promising},
+             f'docs/PASS.md has the edits of the crate {promising}')
     untold = sorted(f'{crate}/must-fail/{edit}' for crate, edit in there - told_edits(PASS) - told_edits(MAP))
     checks.check(not untold, 'docs/PASS.md or docs/MAP.md names every edit', *untold)
     for name, times in sorted(collections.Counter(edit for _, edit in there).items()):
@@ -247,6 +262,18 @@ def edits(checks):
         first = path.read_text().splitlines()[0]
         checks.check(first.startswith('# ') and len(first) > 20, f'{shown(path)}: the first line says what it breaks')
     print(f'{len(every)} edits, {sum(crate == "pass" for crate, _ in there)} of them of the crate pass')
+
+
+def rules(checks):
+    """Every wrong rule of tests/planted.py can be planted, docs/MAP.md names it, and docs/RULES.md tells where it was refused."""
+    for rule in RULES:
+        wrong = misplaced(rule, TOP / 'crates')
+        checks.check(not wrong, f'tests/planted.py: {rule.name}', *wrong)
+    told = {word for _, line in lines_of(MAP) for name in names_in(line) if (found := RULE.fullmatch(name)) for word in found[1].split(', ')}
+    same(checks, told, rule_names(), 'docs/MAP.md names the wrong rules of tests/planted.py')
+    rows = re.findall(r'^\| (\w+) \| .*\| `[^`]+` \| \d+ \|$', PLANTED.read_text(), re.MULTILINE)
+    same(checks, rows, rule_names(), 'docs/RULES.md has the wrong rules of tests/planted.py, each refused')
+    print(f'{len(rows)} wrong rules')
 
 
 # ---- public functions
@@ -337,6 +364,36 @@ def crates(checks):
     print(f'{len(below)} crates')
 
 
+def code_of(crate):
+    """(file, its code without remarks and without what only proofs read)."""
+    for path in sorted((TOP / 'crates' / crate / 'src').rglob('*.rt')):
+        lines = (line.split('//')[0] for line in path.read_text().splitlines() if not line.lstrip().startswith(('ghost ', 'ensures ', 'requires ')))
+        yield path, '\n'.join(lines)
+
+
+def fields_of(crate, struct):
+    """The fields of a struct."""
+    text = (TOP / 'crates' / crate / 'src' / 'lib.rt').read_text()
+    return re.findall(r'^    pub (\w+):', re.search(rf'pub struct {struct} \{{\n(.*?)^\}}', text, re.MULTILINE | re.DOTALL)[1], re.MULTILINE)
+
+
+def promises_alone(checks):
+    """The code of the HIMIB asks the repeater by its functions, and names of its parts only what their contracts speak of."""
+    inside = {*fields_of('repeater', 'Repeater'), *fields_of('port', 'Port')}
+    for crate in ABOVE:
+        for path, text in code_of(crate):
+            named = {name for name in re.findall(rf'\b((?:{"|".join(PARTS)})::\w+)', text)}
+            checks.check(named <= TOLD, f'{shown(path)}: names no more of the repeater than its promises', *sorted(named - TOLD))
+            read = {name for name in re.findall(r'\.(\w+)\b(?!\s*\()', text) if name in inside}
+            checks.check(not read, f'{shown(path)}: reads nothing inside the repeater or a port', *sorted(read))
+
+
+def front_page(checks):
+    """The first page of docs/PASS.md names no file."""
+    page = PASS.read_text().split('\n## ', 2)[1]
+    checks.check('`' not in page and not re.search(r'\w/\w|\.(?:md|py|rt|antt)\b', page), 'docs/PASS.md: no file is named on its first page')
+
+
 def exists(checks, where, words):
     """A command of README's can be started, and the files that it names are there."""
     checks.check(os.access(TOP / words[0], os.X_OK), f'{where}: {words[0]} can be started')
@@ -368,6 +425,8 @@ def outputs(checks, told):
         checks.check(False, 'there is a program to run', str(error))
         return
     (TOP / 'target').mkdir(exist_ok=True)
+    for old in (TOP / 'target').glob('runs.log*'):
+        old.unlink()
     for line, words, output in told:
         ran = subprocess.run(['sh', '-c', words], cwd=TOP, stdin=subprocess.DEVNULL, capture_output=True, text=True, timeout=3600)
         checks.equal((ran.stdout, ran.returncode), (output, 0), f'README.md:{line}: {words}')
@@ -403,7 +462,7 @@ def main(words):
             print(f'## {heading}', *(f'- `{row}`' for row in function_lines(wanted)), sep='\n', end='\n\n')
         return 0
     checks = Checks()
-    for part in (named, finished, promises, edits, public, crates, paths):
+    for part in (named, finished, promises, edits, rules, public, crates, promises_alone, front_page, paths):
         part(checks)
     outputs(checks, commands(checks))
     return checks.end()

@@ -256,7 +256,7 @@ def both_ways(checks, draw):
 
 WORDS = [*KINDS[1:], *roverivet.FLAGS, 'raw', 'tp0', 'tp0-3', 'tp7+aui', 'none', 'd=600', 'n=64', 'k=3', 'c=1', 'x=2', 'x3',
          'x0', 'sa=02:00:00:00:00:01', 'mask=1ff', 'byte=5a', 'P=16', 'R=0', '8f', '00', '#', 'x', '=', 'd=', 'é', '\t', 'tp',
-         '0102030405', '\x00']
+         '0102030405', '\x00', '=>', '=> ok', '=> ref 8', '=> rep 102', 'start = x', 'refusals = allowed']
 
 
 def some_text(draw):
@@ -300,7 +300,8 @@ def commands(checks, draw):
         for turn in range(12):
             verb = ('asm', 'dis', 'run', 'explain')[turn % 4]
             path.write_bytes(some_text(draw) if verb == 'asm' else b''.join(any_record(draw) for _ in range(20)) + draw.randbytes(turn))
-            result = subprocess.run(command + [verb, str(path)], capture_output=True, timeout=SECONDS)
+            form = [] if verb == 'asm' else ['--binary']
+            result = subprocess.run(command + [verb, *form, str(path)], capture_output=True, timeout=SECONDS)
             checks.check(result.returncode in ((0, 2) if verb == 'asm' else (0,)) and b'Traceback' not in result.stderr,
                          f'{verb} of random input', f'status {result.returncode}', result.stderr.decode('utf-8', 'replace')[-300:])
         path.write_bytes(b''.join(any_record(draw) for _ in range(20_000)))

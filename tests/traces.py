@@ -1,85 +1,73 @@
 #!/usr/bin/env -S python3 -B
-"""Runs every trace of traces/LIST through the program and compares all its lines.
+"""Checks every trace of traces/LIST, as `./roverivet check` does.
 
     tests/traces.py [NAME...]
 """
 
+import os
 import re
 import sys
 
 from checks import Checks, TOP, need_program
 
 import roverivet
-from tools import startfile, text
+from tools import check, inputs
+from tools.progress import Progress
 import derive
 
 TRACES = TOP / 'traces'
+SAID = re.compile(r'(\S.*?)(?: x(\d+))? +=> (ok|(?:rep|jam|nil) [0-9a-f]{3}|val [0-9a-f]{2}|ref [0-9]+) *(?:# (.+))?')
 
 
 def listed():
-    """(name, start file or -, meaning) for each line of the list."""
+    """(name, meaning) for each line of the list."""
     for line in (TRACES / 'LIST').read_text().splitlines():
         if line.strip() and not line.startswith('#'):
-            name, start, meaning = line.split(None, 2)
-            yield name, start, meaning
+            name, meaning = line.split(None, 1)
+            yield name, meaning
 
 
-def expected_lines(name):
-    """[(answer without its number, why)] of an expected file; '5-9 ok' stands for five lines."""
-    lines = []
-    for number, line in enumerate((TRACES / f'{name}.expected').read_text().splitlines(), 1):
-        body, _, why = line.partition('#')
-        if not body.strip():
-            continue
-        found = re.fullmatch(r'(\d+)(?:-(\d+))? (.+)', body.strip())
-        if not found or int(found[1]) != len(lines) + 1 or int(found[2] or found[1]) < int(found[1]):
-            raise ValueError(f'traces/{name}.expected:{number}: expected line {len(lines) + 1}, found {body.strip()}')
-        lines += [(found[3], why.strip())] * (int(found[2] or found[1]) - int(found[1]) + 1)
-    return lines
+def records(name):
+    """(line, what it says) for each line with a record."""
+    for number, line in enumerate((TRACES / f'{name}.txt').read_text().splitlines(), 1):
+        if line.strip() and not line.startswith(('#', 'start = ')):
+            yield f'traces/{name}.txt:{number}: {line}', SAID.fullmatch(line)
 
 
-def printed(answer):
-    """An answer as the program prints it, without its number."""
-    if answer.word in ('rep', 'jam', 'nil'):
-        return f'{answer.word} {answer.value:03x}'
-    return {'val': f'val {answer.value:02x}', 'ref': f'ref {answer.value}'}.get(answer.word, answer.word)
+def untold(name, by_hand):
+    """The lines with a record that do not say what is expected, or, in a trace by hand, why."""
+    return [line for line, said in records(name) if not said or (by_hand and not said[4])]
 
 
-def differences(name, start):
-    """What is wrong with one trace: its first differing line, or nothing."""
-    source = (TRACES / f'{name}.txt').read_text().split('\n')
-    lines, data = [], b''
-    for number, record, times in text.bytes_of(source, f'traces/{name}.txt'):
-        lines += [number] * times
-        data += record * times
-    given = None if start == '-' else startfile.start_bytes((TRACES / start).read_text(), f'traces/{start}')
-    answers, expected = roverivet.answers(data, given), expected_lines(name)
-    for at, (answer, (due, why)) in enumerate(zip(answers, expected)):
-        if printed(answer) != due:
-            return [f'record {at + 1}, traces/{name}.txt:{lines[at]}: {source[lines[at] - 1]}',
-                    f'expected {due}    ({why})' if why else f'expected {due}', f'found    {printed(answer)}']
-    if len(answers) != len(expected):
-        return [f'{len(answers)} answers, {len(expected)} expected lines']
-    return []
+def differing(name):
+    """The first answer that is not the line's, compared here and not by the verb, or nothing."""
+    one = inputs.trace(f'traces/{name}.txt')
+    due = [(line, said[3]) for line, said in records(name) for _ in range(int(said[2] or 1))]
+    came = roverivet.answers(b''.join(one.blocks()), inputs.start_for(one, None))
+    wrong = [f'{line}, answered {answer.words}' for (line, words), answer in zip(due, came) if answer.words != words]
+    return wrong[:1] if len(due) == len(came) else [f'{len(due)} lines, {len(came)} answers']
 
 
 def main(names):
     need_program()
-    checks, rows = Checks(), list(listed())
-    unknown = set(names) - {name for name, _, _ in rows}
+    os.chdir(TOP)
+    checks, rows, made = Checks(), list(listed()), derive.derived()
+    unknown = set(names) - {name for name, _ in rows}
     checks.check(not unknown, f'not in traces/LIST: {" ".join(sorted(unknown))}')
     files = {path.name for path in TRACES.iterdir()} - {'LIST', 'README.md'}
-    due = {f'{name}.{end}' for name, _, _ in rows for end in ('txt', 'expected')} | {s for _, s, _ in rows if s != '-'}
-    checks.equal(sorted(files), sorted(due), 'the files of traces/ are those of its LIST')
-    for name, lines in derive.derived().items():
+    starts = {inputs.trace(f'traces/{name}.txt').settings.get('start') for name, _ in rows} - {None}
+    checks.equal(sorted(files), sorted({f'{name}.txt' for name, _ in rows} | starts), 'the files of traces/ are those of its LIST')
+    for name, lines in made.items():
         checks.equal((TRACES / name).read_text(), '\n'.join(lines) + '\n', f'traces/{name} is what tests/derive.py writes')
-    for name, start, meaning in rows:
+    for name, meaning in rows:
         if not names or name in names:
-            try:
-                wrong = differences(name, start)
-            except (roverivet.Ended, ValueError, OSError, text.TextError) as error:
-                wrong = [str(error)]
-            if checks.check(not wrong, f'{name}: {meaning}', *wrong):
+            silent = untold(name, f'{name}.txt' not in made)
+            if not checks.check(not silent, f'{name}: every record has its answer, and the rule that it follows from', *silent):
+                continue
+            wrong = differing(name)
+            checks.check(not wrong, f'{name}: line by line', *wrong)
+            result = check.checked(f'traces/{name}.txt', None, False, Progress('check'))
+            if checks.check(result.passed, f'{name}: {meaning}', *result.told(), result.summary):
                 print(f'passed {name}: {meaning}')
     return checks.end()
 

@@ -13,6 +13,7 @@ from checks import Checks, TOP, need_program
 
 PAGE = TOP / 'docs' / 'TUTORIAL.md'
 FOLDER = TOP / 'target' / 'tutorial'
+TIME = re.compile(r'\d{4}-\d\d-\d\dT[\d:.]+Z')
 BLOCK = re.compile(r'^```(\w+)(?: file=(\S+))?\n(.*?)^```$', re.DOTALL | re.MULTILINE)
 
 
@@ -47,7 +48,7 @@ def main(words):
                                  stderr=subprocess.DEVNULL if name.endswith('build') else subprocess.STDOUT, text=True, timeout=3600)
             if words == ['--show']:
                 print(f'$ {name}\n{ran.stdout}', end='')
-            checks.equal(ran.stdout, body, f'docs/TUTORIAL.md:{line}: {name}')
+            checks.equal(TIME.sub('TIME', ran.stdout), TIME.sub('TIME', body), f'docs/TUTORIAL.md:{line}: {name}')
             checks.equal(ran.returncode, 0, f'docs/TUTORIAL.md:{line}: status of {name}')
         checks.check((FOLDER / 'partition.html').stat().st_size > 5000, 'the picture is there')
     finally:

@@ -9,8 +9,9 @@ from pathlib import Path
 
 from checks import Checks, TOP, need_program, roverivet_command
 from record import SAMPLE_LINES
+import liars
 
-VERBS = ('build', 'asm', 'dis', 'run', 'explain', 'talk', 'view')
+VERBS = ('build', 'asm', 'dis', 'run', 'check', 'explain', 'talk', 'view')
 
 EXPLAINED = '''1-3 pulse tp0+tp1: ok
 4 pulse tp0+tp1: ok; link passes: TP0 TP1
@@ -69,20 +70,26 @@ def runs(checks, folder):
     binary = folder / 'sample.bin'
     checks.equal(roverivet_command('asm', 'traces/sample.txt', '-o', str(binary)).returncode, 0, 'asm to a file')
     for words, data in ((('traces/sample.txt',), None), ((str(binary),), None), (('-',), binary.read_bytes()), ((), binary.read_bytes()),
-                        (('--text',), (TOP / 'traces' / 'sample.txt').read_bytes()), (('--text', 'traces/sample.expected'), None)):
+                        (('--text',), (TOP / 'traces' / 'sample.txt').read_bytes()), (('--text', 'traces/LIST'), None)):
         result = roverivet_command('run', *words, data=data)
-        if words[-1:] == ('traces/sample.expected',):
-            checks.check(result.returncode == 2 and result.stderr.startswith(b'roverivet: traces/sample.expected:3:1: expected burst'),
+        if words[-1:] == ('traces/LIST',):
+            checks.check(result.returncode == 2 and result.stderr.startswith(b'roverivet: traces/LIST:3:1: expected burst'),
                          'run --text of what is no trace')
         else:
             checks.equal((result.returncode, result.stdout, result.stderr), (0, SAMPLE_LINES, b''), f'run {" ".join(words)}')
     elsewhere = roverivet_command('run', str(binary), cwd=folder)
     checks.equal((elsewhere.returncode, elsewhere.stdout), (0, SAMPLE_LINES), 'run from another folder')
-    started = roverivet_command('run', '--start', 'traces/counter-wraps.start.txt', 'traces/counter-wraps.txt')
+    started = roverivet_command('run', '--start', 'traces/counter-wraps.start', 'traces/counter-wraps.txt')
     checks.check(started.returncode == 0 and b'\n7 val ff\n' in started.stdout, 'run with a start file as text')
+    checks.equal(roverivet_command('run', 'traces/counter-wraps.txt').stdout, started.stdout, 'run with the start file that the trace names')
+    checks.check(b'\n7 val 00\n' in roverivet_command('run', '--start', '/dev/stdin', 'traces/counter-wraps.txt', data=bytes(530)).stdout,
+                 'run with another start file than the trace names')
     start = folder / 'wraps.start'
-    roverivet_command('asm', '--start', 'traces/counter-wraps.start.txt', '-o', str(start))
+    roverivet_command('asm', '--start', 'traces/counter-wraps.start', '-o', str(start))
     checks.equal(start.stat().st_size, 530, 'asm of a start file')
+    (folder / 'full.start').write_bytes(b'\xff' * 530)
+    checks.equal(roverivet_command('run', '--start', str(folder / 'full.start'), data=b'c-write R=13\nd-read\n').stdout, b'1 ok\n2 val ff\n',
+                 'run with a start file that has no byte of a control character')
     checks.equal(roverivet_command('run', '--start', str(start), 'traces/counter-wraps.txt').stdout, started.stdout, 'run with a start file')
     for verb in ('run', 'explain', 'view'):
         more = ('-o', str(folder / 'x.svg')) if verb == 'view' else ()
@@ -102,18 +109,20 @@ def explains(checks):
         checks.equal((words.splitlines()[-1:], said, status), ([due], '', 0), f'explain {records.splitlines()[-1]}')
     for row in (TOP / 'traces' / 'LIST').read_text().splitlines():
         if not row.startswith(('#', 'registers', 'commands')):
-            name, start = row.split()[:2]
-            more = () if start == '-' else ('--start', f'traces/{start}')
-            result = roverivet_command('explain', *more, f'traces/{name}.txt')
+            name = row.split()[0]
+            result = roverivet_command('explain', f'traces/{name}.txt')
             checks.equal((result.returncode, result.stderr, b'FINDING' in result.stdout), (0, b'', False), f'explain {name}: no finding')
     print(f'explain: the sample, {len(WORDS)} more, and no finding in any trace by hand')
 
 
 def talks(checks):
     typed = b'pulse tp0 x4\n\n# a remark\nburst tp0\nburst tp0 d=600 n=64\nd-read\n'
-    told = ('1-3 pulse tp0: ok\n4 pulse tp0: ok; link passes: TP0\n4:10: expected d=, the duration of the burst\n'
-            '5 burst tp0 d=600 n=64: one heard (TP0), data to AUI; Readable Frames +1 TP0\n6 refused 5: P 0 R 0 is not listed\n')
-    checks.equal(text(roverivet_command('talk', data=typed)), (told, '', 0), 'talk')
+    told = ('1-3 pulse tp0: ok\n4 pulse tp0: ok; link passes: TP0\n'
+            '5 burst tp0 d=600 n=64: one heard (TP0), data to AUI; Readable Frames +1 TP0\n'
+            '6 refused 5: P 0 R 0 is not listed\n')
+    checks.equal(text(roverivet_command('talk', data=typed)), (told, 'roverivet: 4:10: expected d=, the duration of the burst\n', 2), 'talk')
+    checks.equal(text(roverivet_command('talk', data=b'pulse tp0\nbur'))[::2], ('1 pulse tp0: ok\n', 2), 'talk with a last line that is cut')
+    checks.equal(text(roverivet_command('talk', data=b'pulse tp0'))[::2], ('1 pulse tp0: ok\n', 0), 'talk with a last line that has no end')
     keep = subprocess.Popen([sys.executable, str(TOP / 'roverivet'), 'talk'], stdin=subprocess.PIPE, stdout=subprocess.PIPE, bufsize=0)
     for number, word in ((1, 'tick'), (2, 'reset'), (3, 'tick')):
         keep.stdin.write(word.encode() + b'\n')
@@ -136,46 +145,63 @@ def views(checks, folder):
     print('view: what it does not take')
 
 
-LIAR = '''#!/usr/bin/env python3
-import os, sys
-os.dup2(os.open(os.devnull, os.O_WRONLY), 2)
-number = 0
-while len(piece := sys.stdin.buffer.read(32)) == 32:
-    number += 1
-    print({answer}, flush=True)
-'''
-
-
 def findings(checks, folder):
     """Programs that are wrong: missing, lying, dying, printing something else."""
     def with_program(script, *words, data):
-        path = folder / 'liar'
-        path.write_text(script)
-        path.chmod(0o755)
-        return text(roverivet_command(*words, data=data, env={**os.environ, 'ROVERIVET_RUN': str(path)}))
+        return liars.command(folder, script, *words, data=data)
 
-    always_ok = LIAR.format(answer="number, 'ok'")
-    words, _, status = with_program(always_ok, 'explain', '--text', data=b'tick\ntick mask=1\nburst tp0 d=5\n')
+    words, _, status = with_program(liars.script(liars.ALWAYS_OK), 'explain', '--text', data=b'tick\ntick mask=1\nburst tp0 d=5\n')
     checks.equal((words, status),
                  ('1 tick: ok\n2 tick mask=001: answered ok 0; FINDING: document 01 refuses this with 8: tick with a mask\n'
                   '3 burst tp0 d=5: answered ok 0; FINDING: document 01 accepts this and answers rep or jam or nil\n', 1), 'explain a liar')
-    words, _, status = with_program(LIAR.format(answer="number, 'ref 8'"), 'explain', '--text', data=b'tick\n')
+    words, _, status = with_program(liars.script("number, 'ref 8'"), 'explain', '--text', data=b'tick\n')
     checks.equal((words, status), ('1 tick: answered ref 8; FINDING: document 01 accepts this and answers ok\n', 1), 'explain a refuser')
-    for script, reason in ((LIAR.format(answer="'hello'"), "the program printed 'hello', which is no answer"),
-                           (LIAR.format(answer="number + 1, 'ok'"), 'the program answered record 2 when record 1 was due'),
-                           ('#!/bin/sh\nexit 7\n', 'the program ended before its answer to record 1, status 7')):
-        _, said, status = with_program(script, 'explain', '--text', data=b'tick\n')
+    for wrong, reason in (('prints something else', "the program printed 'hello', which is no answer"),
+                          ('counts from 2', 'the program answered record 2 when record 1 was due'),
+                          ('dies', 'the program ended before its answer to record 1, status 7')):
+        _, said, status = with_program(liars.UNORDERED[wrong], 'explain', '--text', data=b'tick\n')
         checks.check(said.strip() in (f'roverivet: {reason}', 'roverivet: the program has ended, status 7') and status == 1,
                      f'explain: {reason}', f'found {said} {status}')
-    checks.equal(with_program('#!/bin/sh\nexit 7\n', 'run', '--text', data=b'tick\n')[1:],
+    checks.equal(with_program(liars.UNORDERED['dies'], 'run', '--text', data=b'tick\n')[1:],
                  ('roverivet: the program ended with status 7\n', 1), 'run a program that dies')
-    checks.equal(with_program('#!/bin/sh\ncat > /dev/null\n', 'run', '--text', data=b'tick\n')[1:],
+    checks.equal(with_program(liars.UNORDERED['is silent'], 'run', '--text', data=b'tick\n')[1:],
                  ('roverivet: the program gave 0 answers to 1 records\n', 1), 'run a program that is silent')
     for verb in ('run', 'explain', 'build'):
         more = () if verb == 'build' else ('traces/sample.txt',)
         none = text(roverivet_command(verb, *more, env={**os.environ, 'ROVERIVET_RUN': str(folder / 'none')}))
         checks.equal(none[1:], (f'roverivet: ROVERIVET_RUN names {folder}/none, which is no program\n', 3), f'{verb} without a program')
     print('findings: programs that lie, die, are silent or are not there')
+
+
+def forms(checks, folder):
+    """Text and records are known by their first bytes, whatever the name and the way they come."""
+    source, binary = (TOP / 'traces' / 'sample.txt').read_bytes(), roverivet_command('asm', 'traces/sample.txt').stdout
+    looks = 'this looks like text, and records are expected; --binary takes it for records'
+    for name in ('trace', 'trace.bin', 'trace.log'):
+        (folder / name).write_bytes(source)
+        checks.equal(text(roverivet_command('run', str(folder / name))), (SAMPLE_LINES.decode(), '', 0), f'run of a text named {name}')
+        checks.equal(text(roverivet_command('dis', str(folder / name))), ('', f'roverivet: {folder / name}: {looks}\n', 2), f'dis of a text named {name}')
+    for data, what in ((source, 'text'), (binary, 'records'), (b'\xef\xbb\xbf' + source, 'text with a mark before it'),
+                       (source.replace(b'\n', b'\r\n'), 'text from another system')):
+        checks.equal(text(roverivet_command('run', data=data)), (SAMPLE_LINES.decode(), '', 0), f'run of {what} from a pipe')
+    checks.equal(text(roverivet_command('explain', data=source))[0], EXPLAINED, 'explain of text from a pipe')
+    refused = '1 ref 8\n2 ref 9\n'
+    odd = b'# 32 signs that can be no record'
+    checks.equal(text(roverivet_command('run', '--binary', data=odd + b'!')), (refused, '', 0), 'run --binary of what looks like text')
+    checks.equal(text(roverivet_command('dis', '--binary', data=b'half'))[0], 'raw 68616c66  # refused 9: 4 bytes where a record has 32\n', 'dis --binary')
+    for data, reason in ((b'hello\n', '1:1: expected burst, pulse, tick'), (b'tick\ncaf\xe9\n', '2:4: expected text, found the byte e9'),
+                         ('tick\n'.encode('utf-16'), '1:1: expected text, found the byte ff'), (b'tick\n' * 8 + b'\0\n', '9:1: expected burst')):
+        for verb in ('run', 'explain'):
+            output, said, status = text(roverivet_command(verb, data=data))
+            checks.check((output, status) == ('', 2) and said.startswith(f'roverivet: standard input:{reason}'), f'{verb} of {data[:20]!r}', said)
+    output, said, status = text(roverivet_command('asm', data=binary))
+    checks.check((output, status) == ('', 2) and said.startswith('roverivet: standard input:1:'), 'asm of records', said)
+    checks.equal(text(roverivet_command('run', data=b'')), ('', '', 0), 'run of nothing')
+    (folder / 'later.txt').write_bytes(b'this is no record\ntick\nreset\n')
+    later = subprocess.run(['sh', '-c', f'(read first; {sys.executable} {TOP / "roverivet"} run) < later.txt'], cwd=folder, capture_output=True, text=True)
+    checks.equal((later.stdout, later.returncode), ('1 ok\n2 ok\n', 0), 'run of the rest of a file')
+    checks.equal(roverivet_command('run', '--text', '--binary', data=b'').returncode, 2, 'run --text --binary')
+    print('text and records known by their first bytes')
 
 
 def main():
@@ -190,6 +216,7 @@ def main():
         talks(checks)
         views(checks, folder)
         findings(checks, folder)
+        forms(checks, folder)
     return checks.end()
 
 

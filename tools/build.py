@@ -7,15 +7,16 @@ import sys
 import time
 
 import roverivet
-from roverivet import HERE, Missing, PROGRAM
+import roverivet_version
+from roverivet import CHECKED, HERE, Missing, PROGRAM
+from tools.progress import Progress
 
-MARK = PROGRAM.parent / 'run.checked'  # touched when the sources were last found proved
 
-
-def ensure():
+def ensure(progress=None):
     """Leaves a program that can be started, or raises Missing."""
-    if os.environ.get('ROVERIVET_RUN') or fresh():
+    if os.environ.get('ROVERIVET_RUN') or roverivet.is_fresh():
         roverivet.command()
+        roverivet.assured = True
         return
     if not (HERE / 'crates.txt').exists():
         raise Missing(f'there is no {PROGRAM.relative_to(HERE)}, and no crates.txt to build it from')
@@ -25,22 +26,22 @@ def ensure():
     print(f'roverivet: target/bin/run is {state}: proving it first, then building it (rt check run); '
           'this takes minutes', file=sys.stderr, flush=True)
     began = time.time()
-    if subprocess.run(['rt', 'check', 'run'], cwd=HERE, stdin=subprocess.DEVNULL, stdout=sys.stderr).returncode:
+    if proved(progress or Progress('build')):
         raise Missing('rt check run failed: the program is not proved, so it is not run')
-    MARK.touch()
-    os.utime(MARK, (began, began))
+    CHECKED.write_text(roverivet_version.proof_line() + '\n')
+    os.utime(CHECKED, (began, began))
     roverivet.command()
+    roverivet.assured = True
 
 
-def fresh():
-    """Whether the program is there and nothing that it is made of is younger."""
-    if not PROGRAM.exists():
-        return False
-    built = max(path.stat().st_mtime for path in (PROGRAM, MARK) if path.exists())
-    return all(path.stat().st_mtime <= built for path in sources())
-
-
-def sources():
-    yield HERE / 'crates.txt' if (HERE / 'crates.txt').exists() else PROGRAM
-    for folder in ('src', 'specs', 'proofs'):
-        yield from (path for path in HERE.glob(f'crates/*/{folder}/**/*') if path.is_file())
+def proved(progress):
+    """Runs rt, passes on to standard error what it prints, and gives its status."""
+    progress.stage('lines of the checker')
+    with subprocess.Popen(['rt', 'check', 'run'], cwd=HERE, stdin=subprocess.DEVNULL, stdout=subprocess.PIPE,
+                          stderr=subprocess.STDOUT) as process:
+        for line in process.stdout:
+            with progress.aside():
+                sys.stderr.buffer.write(line)
+                sys.stderr.flush()
+            progress.add()
+    return process.returncode

@@ -1,27 +1,28 @@
 """Each record beside its answer, in words. What is said of a burst comes from the program (tools/watch.py)."""
 
-import itertools
+import functools
 
 import roverivet
 from roverivet import (BURST, C_READ, C_WRITE, CHANGES, COMMANDS, D_READ, D_WRITE, REGISTERS, RESET,
                        TP_CHANGES, ports_of)
 from tools import text
 
+KEPT = 1 << 16  # words that are kept at most
 NUMBERS = ('none', 'one', 'two', 'three', 'four', 'five', 'six', 'seven', 'eight', 'nine')
 HEARD = set(roverivet.ATTRIBUTES) - {'Auto Partitions'}
 
 
-WORDS = {BURST: ('rep', 'jam', 'nil'), C_READ: ('val',), D_READ: ('val',)}
+_refusal = functools.lru_cache(4096)(roverivet.refusal)
+_kept = {}
 
 
 def finding(seen):
     """What is wrong with an answer, going by document 01's refusals and words, or nothing."""
-    due = roverivet.refusal(seen.piece, seen.selected)
-    word, value = seen.answer.word, seen.answer.value
-    if due and (word, value) != ('ref', due[0]):
+    due = _refusal(seen.piece, seen.selected)
+    if due and (seen.answer.word, seen.answer.value) != ('ref', due[0]):
         return f'document 01 refuses this with {due[0]}: {due[1]}'
-    if not due and word not in WORDS.get(seen.record.kind, ('ok',)):
-        return f'document 01 accepts this and answers {" or ".join(WORDS.get(seen.record.kind, ("ok",)))}'
+    if not due and (seen.answer.word == 'ref' or roverivet.impossible(seen.piece, seen.answer)):
+        return f'document 01 accepts this and answers {" or ".join(roverivet.ANSWERS[seen.record.kind][0])}'
     return ''
 
 
@@ -31,8 +32,21 @@ def told(seen):
     if wrong:
         return f'{text.described(seen.piece)}: answered {answer.word} {answer.value:x}; FINDING: {wrong}'
     if answer.word == 'ref':
-        return f'refused {answer.value}: {roverivet.refusal(seen.piece, seen.selected)[1]}'
+        return f'refused {answer.value}: {_refusal(seen.piece, seen.selected)[1]}'
     return text.described(seen.piece) + ': ' + '; '.join([_answer(seen)] + _states(seen))
+
+
+def words(seen):
+    """The same, kept where the record has a key."""
+    key = seen.key
+    found = _kept.get(key)
+    if found is None:
+        found = told(seen)
+        if key is not None:
+            if len(_kept) == KEPT:
+                _kept.clear()
+            _kept[key] = found
+    return found
 
 
 def _answer(seen):
@@ -133,7 +147,15 @@ def changes_in(register, value):
 
 def lines(seens):
     """The explanation, equal neighbours on one line. Yields (line, whether it has a finding)."""
-    for (piece, words), same in itertools.groupby(seens, key=lambda seen: (seen.piece, told(seen))):
-        same = list(same)
-        first, last = same[0].number, same[-1].number
-        yield f'{first} {words}' if first == last else f'{first}-{last} {words}', 'FINDING' in words
+    first = last = piece = said = None
+    for seen in seens:
+        now = words(seen)
+        if now == said and seen.piece == piece:
+            last = seen.number
+            continue
+        if first:
+            yield f'{first} {said}' if first == last else f'{first}-{last} {said}', 'FINDING' in said
+        first = last = seen.number
+        piece, said = seen.piece, now
+    if first:
+        yield f'{first} {said}' if first == last else f'{first}-{last} {said}', 'FINDING' in said

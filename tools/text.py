@@ -11,10 +11,23 @@ A line is a kind and its fields; `#` starts a comment; a last word x100 repeats 
 
 Durations, octets and counts are decimal, bytes and masks hexadecimal. Both ways are exact: what
 `text_of` writes, `bytes_of` turns into the same bytes, for every input.
+
+Behind `=>` may stand the answer that is expected of a record, for `check`:
+
+    burst tp0 d=600 n=64 => rep 102                 tick x100 => ok
+    d-read => val 03                                d-read mask=001 => ref 8        (=> ref: any refusal)
+
+Before the first record a line may name a start file, from the folder of this file on, or allow refusals of
+records that have no answer of their own:
+
+    start = FILE                                    refusals = allowed
 """
 
+import functools
 import itertools
+import functools
 import re
+from typing import NamedTuple
 
 import roverivet
 from roverivet import BURST, C_WRITE, D_WRITE, FLAGS, KINDS, PULSE, Record, SIZE
@@ -22,6 +35,30 @@ from roverivet import BURST, C_WRITE, D_WRITE, FLAGS, KINDS, PULSE, Record, SIZE
 MOST = 1_000_000  # repeats that one line may ask for
 PORT_LIST = 'ports (tp0, tp0+tp1, tp0-3, aui, none) or mask=HEX'
 NUMBERS = {'d': 0xFFFFFFFF, 'n': 0xFFFFFFFF, 'k': 0xFF, 'c': 0xFFFFFFFF, 'x': 0xFFFFFFFF}
+KEPT = 200  # lines of fewer signs are kept, since traces say the same ones often
+VALUES = {'ok': '', 'rep': '[0-9a-f]{3}', 'jam': '[0-9a-f]{3}', 'nil': '[0-9a-f]{3}', 'val': '[0-9a-f]{2}', 'ref': '[0-9]{0,2}'}
+DUE_LIST = 'ok, rep, jam or nil and three hex digits, val and two, ref, or ref and a number'
+SETTING = re.compile(r'[ \t]*(start|refusals)[ \t]*=(?!>)[ \t]*(.*?)[ \t\r\n]*', re.IGNORECASE)
+
+
+class Due(NamedTuple):
+    """An answer that is expected. `value` is None for any refusal."""
+    word: str
+    value: int
+
+    def met(self, answer):
+        return answer.word == self.word and self.value in (None, answer.value)
+
+    def __str__(self):
+        return roverivet.Answer(0, self.word, self.value).words if self.value is not None else f'any {self.word}'
+
+
+class Line(NamedTuple):
+    """A line with a record: its number, the record, how many times, and the answer expected of each, or None."""
+    number: int
+    record: bytes
+    times: int
+    due: Due
 
 
 class TextError(Exception):
@@ -41,28 +78,49 @@ class _Wrong(Exception):
 # ---- text to bytes
 
 
-def bytes_of(lines, name='text'):
-    """Yields (line number, record, times) for each line that has a record. `lines` are bytes or text.
+def bytes_of(lines, name='text', settings=None):
+    """Yields a Line for each line that has a record. `lines` are bytes or text.
 
     A piece of fewer than 32 bytes can only be the last, since the records after it would be cut elsewhere.
+    What is set at the head goes to the dictionary `settings`; without one, nothing can be set.
     """
-    short = None
+    short, begun = None, False
     for number, line in enumerate(lines, 1):
         try:
-            found = record_of(decoded(line, name, number))
+            line = decoded(line, name, number)
+            if not begun and settings is not None and _set(line, settings):
+                continue
+            found = record_of(line)
             if found and short:
                 raise _Wrong(1, f'expected nothing after the piece of {short[1]} bytes in line {short[0]}')
         except _Wrong as wrong:
             raise TextError(name, number, wrong.column, wrong.reason) from None
         if found:
-            yield (number, *found)
+            begun = True
+            yield Line(number, *found)
             short = (number, len(found[0])) if len(found[0]) < SIZE else None
+
+
+def _set(line, settings):
+    """Whether a line sets something; it goes to `settings`."""
+    found = SETTING.fullmatch(line.split('#', 1)[0])
+    if not found:
+        return False
+    name, value = found[1].lower(), found[2]
+    if name in settings:
+        raise _Wrong(found.start(1) + 1, f'{name} is set already')
+    if name == 'refusals' and value.lower() != 'allowed':
+        raise _Wrong(found.start(2) + 1, f'expected refusals = allowed, found {_shown(value)}')
+    if not value:
+        raise _Wrong(found.start(2) + 1, 'expected the name of a start file')
+    settings[name] = value
+    return True
 
 
 def assembled(text, name='text'):
     """All the bytes of a text."""
     lines = text.split(b'\n' if isinstance(text, bytes) else '\n')
-    return b''.join(record * times for _, record, times in bytes_of(lines, name))
+    return b''.join(line.record * line.times for line in bytes_of(lines, name, {}))
 
 
 def decoded(line, name, number):
@@ -70,7 +128,7 @@ def decoded(line, name, number):
     if isinstance(line, str):
         return line
     try:
-        return line.decode('utf-8')
+        return line.decode('utf-8-sig' if number == 1 else 'utf-8')
     except UnicodeDecodeError as error:
         column = len(line[:error.start].decode('utf-8')) + 1
         raise TextError(name, number, column, f'expected text, found the byte {line[error.start]:02x}: is this a '
@@ -78,18 +136,43 @@ def decoded(line, name, number):
 
 
 def record_of(line):
-    """(bytes, times) of one line, or None if it has no record."""
-    words = [(found.start() + 1, found.group()) for found in re.finditer(r'[^ \t\r\n]+', line.split('#', 1)[0])]
+    """(bytes, times, the answer expected or None) of one line, or None if it has no record."""
+    body = line.split('#', 1)[0]
+    return _record(body) if len(body) < KEPT else _record.__wrapped__(body)
+
+
+@functools.lru_cache(4096)
+def _record(body):
+    said, arrow, due = body.partition('=>')
+    words = [(found.start() + 1, found.group()) for found in re.finditer(r'[^ \t\r\n]+', said)]
     if not words:
+        if arrow:
+            raise _Wrong(len(said) + 1, 'expected a record before =>')
         return None
     column, kind = words.pop(0)
-    after = len(line.split('#', 1)[0].rstrip()) + 1
+    after = len(said.rstrip()) + 1
     times = _times(words)
     if kind.lower() == 'raw':
-        return _raw(words, after, times), times
-    if kind.lower() not in KINDS[1:]:
+        record = _raw(words, after, times)
+    elif kind.lower() in KINDS[1:]:
+        record = _named(KINDS.index(kind.lower()), words, after)
+    elif SETTING.fullmatch(body):
+        raise _Wrong(column, f'{kind.lower()} can only be set before the first record of a file')
+    else:
         raise _Wrong(column, f'expected {", ".join(KINDS[1:])} or raw, found {_shown(kind)}')
-    return _named(KINDS.index(kind.lower()), words, after), times
+    return record, times, _due(due, len(said) + 3) if arrow else None
+
+
+def _due(words, column):
+    """The answer that stands behind =>."""
+    word, _, value = ' '.join(words.lower().split()).partition(' ')
+    if word not in VALUES or not re.fullmatch(VALUES[word], value):
+        said = words.strip()
+        raise _Wrong(column + len(words) - len(words.lstrip()) if said else column,
+                     f'expected {DUE_LIST}' + (f', found {_shown(said)}' if said else ''))
+    if word == 'ref':
+        return Due(word, int(value) if value else None)
+    return Due(word, int(value, 16) if value else 0)
 
 
 def _times(words):
@@ -187,6 +270,7 @@ def _field(column, word):
 
 
 def _shown(word):
+    word = ''.join(sign if sign.isprintable() else f'\\x{ord(sign):02x}' for sign in word[:41])
     return word if len(word) <= 40 else word[:37] + '...'
 
 
@@ -207,6 +291,7 @@ def text_of(some):
             yield line + (f' x{part}' if part > 1 else '') + (f'  # {remark}' if remark else '')
 
 
+@functools.lru_cache(4096)
 def described(piece):
     """One piece as text: by its fields' names where they can say it all, else in hex."""
     if len(piece) == SIZE:

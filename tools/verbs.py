@@ -4,68 +4,18 @@ import argparse
 import itertools
 import os
 import signal
-import subprocess
 import sys
-import threading
 from pathlib import Path
 
 import roverivet
-from roverivet import SIZE
-from tools import build, explain, picture, startfile, text, watch
+import roverivet_version
+from roverivet import Record, SIZE, TICK
+from tools import build, check, explain, inputs, picture, pump, report, startfile, telling, text, verdict
+from tools.inputs import Bad, output, shown
+from tools.progress import Progress
 from tools.text import TextError
 
 FINE, FINDING, BAD, NO_PROGRAM = range(4)
-BLOCK = 2048 * SIZE
-
-
-class Bad(Exception):
-    """Bad usage, input or output, in words for the user."""
-
-
-# ---- input and output
-
-
-def read_all(path):
-    try:
-        if path == '-':
-            return sys.stdin.buffer.read()
-        return Path(path).read_bytes()
-    except OSError as error:
-        raise Bad(f'{path}: {error.strerror}') from None
-
-
-def shown(path):
-    return 'standard input' if path == '-' else path
-
-
-def is_text(path, given):
-    return given or path.endswith('.txt')
-
-
-def records_of(path, as_text):
-    """The bytes of a trace, text or binary."""
-    data = read_all(path)
-    return text.assembled(data, shown(path)) if is_text(path, as_text) else data
-
-
-def start_of(path, as_text=False):
-    """A start file's 530 bytes, text or binary, or None."""
-    if path is None:
-        return None
-    data = read_all(path)
-    if is_text(path, as_text):
-        return startfile.start_bytes(data, shown(path))
-    if len(data) != roverivet.START_SIZE:
-        raise Bad(f'{shown(path)}: a start file has {roverivet.START_SIZE} bytes, this has {len(data)}')
-    return data
-
-
-def output(path):
-    """A file to write bytes to; '-' is standard output."""
-    try:
-        return open(path, 'wb') if path != '-' else os.fdopen(os.dup(1), 'wb')
-    except OSError as error:
-        raise Bad(f'{path}: {error.strerror}') from None
 
 
 # ---- asm, dis
@@ -73,121 +23,145 @@ def output(path):
 
 def asm(args):
     if args.start:
-        made = [(0, start_of(args.trace, True), 1)]
+        blocks = [inputs.start_of(args.trace, True)]
     else:
-        made = list(text.bytes_of(read_all(args.trace).split(b'\n'), shown(args.trace)))
+        one = inputs.trace(args.trace, as_text=True, progress=args.progress)
+        blocks = one.blocks()
+        args.progress.stage('records', one.count)
     with output(args.output) as out:
-        for _, record, times in made:
-            for at in range(0, times, 2048):
-                out.write(record * min(2048, times - at))
+        for block in blocks:
+            out.write(block)
+            args.progress.add(len(block) // SIZE)
     return FINE
 
 
-def blocks(path):
-    """The pieces of a binary trace, read a block at a time."""
-    try:
-        with open(path, 'rb') if path != '-' else os.fdopen(os.dup(0), 'rb') as file:
-            while block := file.read(BLOCK):
-                yield from text.pieces(block)
-    except OSError as error:
-        raise Bad(f'{shown(path)}: {error.strerror}') from None
-
-
 def dis(args):
-    lines = startfile.start_text(start_of(args.trace)) if args.start else text.text_of(blocks(args.trace))
+    if args.start:
+        lines = startfile.start_text(inputs.start_of(args.trace))
+    else:
+        lines = text.text_of(counted(inputs.records(args.trace, args.binary).pieces(), args.progress))
     with output(args.output) as out:
         for line in lines:
             out.write(line.encode() + b'\n')
     return FINE
 
 
+def counted(pieces, progress):
+    """The same pieces, told to whoever watches."""
+    progress.stage('records')
+    for piece in pieces:
+        yield piece
+        progress.add()
+
+
 # ---- run
 
 
 def run(args):
-    data = records_of(args.trace, True) if is_text(args.trace, args.text) else None
-    start = start_of(args.start)
-    build.ensure()
-    source = subprocess.PIPE if data is not None else open_trace(args.trace)
-    process = roverivet.launch(start, stdin=source, stdout=subprocess.PIPE)
-    if data is not None:
-        threading.Thread(target=feed, args=(process.stdin, data), daemon=True).start()
-    try:
-        answers = copy_out(process.stdout)
-    except BaseException:
-        process.kill()
-        raise
-    finally:
-        status = process.wait()
-    if status:
-        raise roverivet.Ended(f'the program ended with status {status}')
-    if data is not None and answers != -(-len(data) // SIZE):
-        raise roverivet.Ended(f'the program gave {answers} answers to {-(-len(data) // SIZE)} records')
+    one, start = taken(args)
+    args.progress.stage('records', one.count)
+
+    def write(block):
+        args.progress.write(block)
+        args.progress.add(block.count(b'\n'))
+
+    if args.log:
+        return logged_run(args, one, start, write)
+    pump.run(one, start, write)
     return FINE
 
 
-def open_trace(path):
-    """A binary trace as a file to read from; None is this process's own standard input."""
+def logged_run(args, one, start, write):
+    """A run with its place in the log. Nothing is expected of its answers, so it is never green."""
+    attempt = check.begun(args.log, args.trace, start, one.digest() if one.is_text else None)
+
+    def take(block):
+        write(block)
+        attempt.take(b'', [roverivet.answer_of(line) for line in block.decode().splitlines()])
+
     try:
-        return None if path == '-' else open(path, 'rb')
-    except OSError as error:
-        raise Bad(f'{path}: {error.strerror}') from None
+        pump.run(one, start, take, attempt.digest.update)
+    except roverivet.Ended as error:
+        attempt.end('red', attempt.records + 1, str(error))
+        raise
+    attempt.end('answered')
+    return FINE
 
 
-def copy_out(pipe):
-    """Passes on what the program prints as it comes, and counts its lines."""
-    lines = 0
-    while block := os.read(pipe.fileno(), 65536):
-        lines += block.count(b'\n')
-        while block:
-            block = block[os.write(1, block):]
-    return lines
+def taken(args):
+    """The trace and the start file that a verb is given, with a program to run them."""
+    one = inputs.trace(args.trace, args.text, args.binary, args.progress)
+    start = inputs.start_for(one, args.start)
+    build.ensure(args.progress)
+    return one, start
 
 
-def feed(pipe, data):
-    view = memoryview(data)
-    try:
-        while view:
-            view = view[pipe.write(view):]
-        pipe.close()
-    except OSError:
-        pass
+# ---- check
+
+
+def check_verb(args):
+    build.ensure(args.progress)
+    results = (check.checked(path, args.start, args.refusals_allowed, args.progress, args.log) for path in args.files)
+    say, version = args.progress.print, list(roverivet_version.lines()) if args.tap or args.junit else []
+    found = report.tap(results, say, len(args.files), version) if args.tap else report.plain(results, say)
+    for result in found:
+        if result.bad:
+            with args.progress.aside():
+                print(f'roverivet: {result.summary}', file=sys.stderr, flush=True)
+    if args.junit:
+        with output(args.junit) as out:
+            out.write(report.junit(found, version).encode())
+    if any(result.bad for result in found):
+        return BAD
+    return FINE if all(result.passed for result in found) else FINDING
+
+
+def verdict_verb(args):
+    return FINE if verdict.told(args.logs, args.since, args.progress.print) else FINDING
 
 
 # ---- explain, talk
 
 
 def explain_verb(args):
-    pieces, start = text.pieces(records_of(args.trace, args.text)), start_of(args.start)
-    build.ensure()
+    one, start = taken(args)
     found = 0
-    for line, wrong in explain.lines(watch.watched(pieces, start)):
-        print(line)
+    args.progress.stage('records', one.count)
+    for line, wrong in explain.lines(counted_seens(telling.watched(one.pieces(), start), args.progress)):
+        args.progress.print(line)
         found += wrong
     return FINDING if found else FINE
 
 
+def counted_seens(seens, progress):
+    for seen in seens:
+        yield seen
+        progress.add()
+
+
 def talk(args):
-    start = start_of(args.start)
-    build.ensure()
-    prompt = sys.stdin.isatty()
+    start = inputs.start_of(args.start)
+    build.ensure(args.progress)
+    args.progress.stop()  # waiting for a line is no work
+    prompt, found, wrong = sys.stdin.isatty(), 0, 0
     if prompt:
         print('One record a line, as: pulse tp0-3 x4; burst tp0 d=1000 n=64; c-read. End with ctrl-D.')
-    found = 0
-    with watch.Watch(start) as chip:
+    with telling.chip(start) as chip:
         for number in itertools.count(1):
             line = asked(prompt)
             if not line:
-                return FINDING if found else FINE
+                break
             try:
                 made = next(text.bytes_of([line], 'line'), None)
             except TextError as error:
-                print(f'{number}:{error.column}: {error.reason}', flush=True)
+                print(f'roverivet: {number}:{error.column}: {error.reason}', file=sys.stderr, flush=True)
+                wrong += 1
                 continue
             if made:
-                found += answer_line(chip, made[1], made[2])
-                if len(made[1]) < SIZE:
-                    return FINDING if found else FINE
+                found += answer_line(chip, made.record, made.times)
+                if len(made.record) < SIZE:
+                    break
+    return FINDING if found else BAD if wrong and not prompt else FINE
 
 
 def asked(prompt):
@@ -199,9 +173,11 @@ def asked(prompt):
 
 def answer_line(chip, piece, times):
     found = 0
-    for line, wrong in explain.lines(chip.take(piece) for _ in range(times)):
-        print(line, flush=True)
-        found += wrong
+    with Progress('talk').stage('records', times) as progress:
+        for line, wrong in explain.lines(counted_seens((chip.take(piece) for _ in range(times)), progress)):
+            progress.print(line)
+            sys.stdout.flush()
+            found += wrong
     return found
 
 
@@ -211,19 +187,27 @@ def answer_line(chip, piece, times):
 def view(args):
     if not args.output.endswith(('.svg', '.html')):
         raise Bad(f'{args.output}: expected a name that ends in .svg or .html')
-    pieces, start = text.pieces(records_of(args.trace, args.text)), start_of(args.start)
     if args.first < 1 or (args.last is not None and args.last < args.first):
         raise Bad(f'--from {args.first} --to {args.last}: expected record numbers from 1, the lower first')
-    build.ensure()
+    one, start = taken(args)
+    args.progress.stage('records', one.count)
+    seens = list(counted_seens(telling.watched(itertools.islice(one.pieces(), args.last), start), args.progress))
+    for seen in seens:
+        wrong = explain.finding(seen)
+        if wrong:
+            raise roverivet.Ended(f'record {seen.number} was answered {seen.answer.words}: {wrong}')
     draw = picture.svg if args.output.endswith('.svg') else picture.page
-    drawn = draw(watch.watched(pieces[:args.last], start), Path(shown(args.trace)).name, args.first, args.last)
+    drawn = draw(seens, Path(shown(args.trace)).name, args.first, args.last)
     with output(args.output) as out:
         out.write(drawn.encode())
     return FINE
 
 
-def build_verb(_):
-    build.ensure()
+def build_verb(args):
+    build.ensure(args.progress)
+    with roverivet.Running() as program:
+        if program.ask(Record(TICK).pack())[0].word != 'ok':
+            raise roverivet.Ended('the program refused a tick')
     print('ready: the program answers records')
     return FINE
 
@@ -232,12 +216,13 @@ def build_verb(_):
 
 
 def main(words):
-    args = parser().parse_args(words)
+    args = parsed(words)
     try:
-        status = args.verb(args)
-        sys.stdout.flush()
+        with Progress(args.name) as args.progress:
+            status = args.verb(args)
+            sys.stdout.flush()
         return status
-    except (Bad, TextError, ValueError) as error:
+    except (Bad, TextError, ValueError, check.LogError) as error:
         return complain(error, BAD)
     except roverivet.Missing as error:
         return complain(error, NO_PROGRAM)
@@ -249,6 +234,23 @@ def main(words):
         return end_by(signal.SIGPIPE)
     except OSError as error:
         return complain(f'cannot write: {error.strerror}', BAD)
+
+
+def parsed(words):
+    """The words of the command line, for a verb that is there."""
+    top = parser()
+    args = top.parse_args(words)
+    if args.version:
+        args.verb, args.name = version_verb, 'version'
+    elif not hasattr(args, 'verb'):
+        top.error('expected a verb')
+    return args
+
+
+def version_verb(_):
+    for line in roverivet_version.lines():
+        print(line)
+    return FINE
 
 
 def complain(error, status):
@@ -276,12 +278,13 @@ def parser():
         epilog='Exit status: 0 fine; 1 a finding; 2 bad usage, input or output; 3 the program is missing or '
                'cannot be built. The environment variable ROVERIVET_RUN names another program in place of '
                'target/bin/run. docs/TUTORIAL.md is the place to start.')
-    verbs = top.add_subparsers(metavar='VERB', required=True)
+    top.add_argument('--version', action='store_true', help='say which model this is: rules, commit, proofs, toolchain, program')
+    verbs = top.add_subparsers(metavar='VERB')
 
     def verb(name, does, function, trace='TRACE', more=''):
         one = verbs.add_parser(name, help=does, description=does[0].upper() + does[1:] + '.', epilog=more,
                                formatter_class=argparse.RawDescriptionHelpFormatter)
-        one.set_defaults(verb=function)
+        one.set_defaults(verb=function, name=name)
         if trace:
             one.add_argument('trace', metavar=trace, nargs='?', default='-', help='the file; standard input when none is named')
         return one
@@ -293,8 +296,21 @@ def parser():
     one = verb('dis', 'turn a binary trace into text; asm turns it back into the same bytes', dis)
     one.add_argument('-o', '--output', metavar='FILE', default='-', help='where to write; standard output if not named')
     one.add_argument('--start', action='store_true', help='the file is a start file')
+    one.add_argument('--binary', action='store_true', help='the file is a trace even if it looks like text')
     one = verb('run', 'run a trace and print its answers; proves and builds the program first if needed', run)
     trace_options(one)
+    log_option(one)
+    one = verb('check', 'run texts of records and hold their answers to the expected ones', check_verb, trace=None, more=text.__doc__)
+    one.add_argument('files', metavar='FILE', nargs='+', help='a text of records with expected answers')
+    one.add_argument('--refusals-allowed', action='store_true', help='a record without an expected answer may be refused')
+    one.add_argument('--tap', action='store_true', help='print in the Test Anything Protocol')
+    one.add_argument('--junit', metavar='FILE', help="write the results as JUnit's XML, too")
+    start_option(one)
+    log_option(one)
+    one = verb('verdict', 'read logs and say of each test whether every attempt was green', verdict_verb, trace=None,
+               more=verdict.__doc__)
+    one.add_argument('logs', metavar='LOG', nargs='+', help='a log, written by check --log, run --log or a client')
+    one.add_argument('--since', metavar='POINT', help='a commit or a time, as 2026-11-15 or 2026-11-15T20:00: what came before does not count')
     one = verb('explain', 'run a trace and tell each record beside its answer, in words', explain_verb)
     trace_options(one)
     one = verb('view', 'draw a run: a lane for each port, the change bits and their reads beneath', view)
@@ -309,9 +325,14 @@ def parser():
 
 def trace_options(one):
     start_option(one)
-    one.add_argument('--text', action='store_true', help='the trace is text; so is one whose name ends in .txt')
+    form = one.add_mutually_exclusive_group()
+    form.add_argument('--text', action='store_true', help='the trace is text, whatever its first bytes look like')
+    form.add_argument('--binary', action='store_true', help='the trace is records, whatever its first bytes look like')
+
+
+def log_option(one):
+    one.add_argument('--log', metavar='FILE', help='append what was done to this log')
 
 
 def start_option(one):
-    one.add_argument('--start', metavar='FILE', help='counters and addresses at power-up: 530 bytes, or text if '
-                                                     'its name ends in .txt')
+    one.add_argument('--start', metavar='FILE', help='counters and addresses at power-up: 530 bytes, or text')

@@ -10,6 +10,7 @@ Two things are followed here and not asked, because no register tells them: the 
 place and the last Get, `Host`) and which ports are enabled (`State.enabled`, from accepted commands and resets).
 """
 
+import functools
 from typing import NamedTuple
 
 import roverivet
@@ -44,10 +45,14 @@ class Seen(NamedTuple):
     changed: dict       # {R of P 1: the bits that this record set}
     credits: dict       # {port: [attribute that it raised, ...]}
     transmit_collision: bool
+    key: object = None  # where it is not None: two with the same key differ in their numbers alone
 
     @property
     def record(self):
-        return Record.unpack(self.piece) if len(self.piece) == SIZE else None
+        return _unpacked(self.piece) if len(self.piece) == SIZE else None
+
+
+_unpacked = functools.lru_cache(4096)(Record.unpack)
 
 
 class Host:
@@ -59,27 +64,27 @@ class Host:
     def reset(self):
         self.selected, self.place, self.direction, self.written, self.got = (0, 0), 0, None, [], None
 
-    def take(self, record):
+    def take(self, kind, byte):
         """One accepted record. Gives the byte of its register that a D access met, from 1, else 0."""
-        if record.kind == C_WRITE:
+        if kind == C_WRITE:
             bank, register = self.selected
-            self.selected = (bank, record.byte & 31) if record.byte >> 5 else (record.byte & 31, register)
+            self.selected = (bank, byte & 31) if byte >> 5 else (byte & 31, register)
             self.place, self.written = 0, []
-        elif record.kind == RESET:
+        elif kind == RESET:
             self.reset()
-        elif record.kind in (D_READ, D_WRITE):
-            return self._access(record)
+        elif kind in (D_READ, D_WRITE):
+            return self._access(kind, byte)
         return 0
 
-    def _access(self, record):
-        if self.direction != record.kind:
+    def _access(self, kind, byte):
+        if self.direction != kind:
             self.place, self.written = 0, []
         met = self.place + 1
-        self.direction, self.place = record.kind, met % REGISTERS.get(self.selected, UNLISTED).size
-        if record.kind == D_WRITE and self.selected[1] == ADDRESS and self.selected[0] in BANKS:
-            self.written = (self.written + [record.byte])[:self.place]
-        if record.kind == D_WRITE and self.selected in (roverivet.S, roverivet.G) and record.byte >> 7:
-            self.got = record.byte
+        self.direction, self.place = kind, met % REGISTERS.get(self.selected, UNLISTED).size
+        if kind == D_WRITE and self.selected[1] == ADDRESS and self.selected[0] in BANKS:
+            self.written = (self.written + [byte])[:self.place]
+        if kind == D_WRITE and self.selected in (roverivet.S, roverivet.G) and byte >> 7:
+            self.got = byte
         return met
 
     def again(self):
@@ -103,7 +108,8 @@ class Watch:
     """The two copies. `take` gives each record to both and tells what it did."""
 
     def __init__(self, start=None):
-        self.run, self.asked, self.host, self.number = Running(start), Running(start), Host(), 0
+        self.run, self.asked = Running(start, strict=False), Running(start, strict=False)
+        self.host, self.number = Host(), 0
         self.low = {}
         self.enabled = 0x1FF
         told = self._ask(b'', range(len(PORTS)))
@@ -118,7 +124,7 @@ class Watch:
         answer, selected, place = self.run.ask(piece)[0], self.host.selected, 0
         record = Record.unpack(piece)
         if answer.word != 'ref':
-            place = self.host.take(record)
+            place = self.host.take(record.kind, record.byte)
             self._follow_enabled(record, selected)
         active = record.mask | (0x100 if record.flags & COLLISION_SIGNAL else 0) if record.kind == BURST else 0
         before = self.state
@@ -126,15 +132,14 @@ class Watch:
         self.state = told[0]
         return Seen(self.number, piece, answer, selected, place, self.host.got, before, *told)
 
-    def close(self):
-        self.run.close()
-        self.asked.close()
-
     def __enter__(self):
         return self
 
-    def __exit__(self, *_):
-        self.close()
+    def __exit__(self, *what):
+        try:
+            self.run.__exit__(*what)
+        finally:
+            self.asked.__exit__(*what)
 
     # the questions
 

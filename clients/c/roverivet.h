@@ -10,7 +10,8 @@
  *
  * One header, C99 and POSIX. It keeps one process: ./roverivet run, or the command named in roverivet_open.
  * The process ends when its input closes, and so with the harness, however that ends. Nothing here models
- * the chip: the answers are the program's. Document 01 has the record and the refusals.
+ * the chip: the answers are the program's. Document 01 has the record and the refusals. An answer that is
+ * missing, surplus, out of order, or that no record of its kind can have is an error.
  *
  * Include it before any system header, or define _POSIX_C_SOURCE as 200809L.
  */
@@ -32,7 +33,12 @@
 #include <sys/wait.h>
 #include <unistd.h>
 
-enum { ROVERIVET_SIZE = 32, ROVERIVET_PATIENCE = 60000 };
+enum { ROVERIVET_SIZE = 32 };
+
+/* How many milliseconds an answer may take. */
+#ifndef ROVERIVET_PATIENCE
+#define ROVERIVET_PATIENCE 60000
+#endif
 
 /* ---- ports, flags, kinds */
 
@@ -139,14 +145,24 @@ static inline void roverivet_child(int in, int out, char *const command[])
     _exit(127);
 }
 
+/* Names on standard error a command that is not ./roverivet, which names its program itself. */
+static inline void roverivet_name(const char *command)
+{
+    const char *slash = strrchr(command, '/');
+    if (strcmp(slash ? slash + 1 : command, "roverivet"))
+        fprintf(stderr, "roverivet: the answers are those of %s, and not of ./roverivet run\n", command);
+}
+
 /* Starts the program. `command` is NULL for ./roverivet run; `start` names a start file or is NULL. With a
  * command of its own, a start file is among its words. Gives 0, or -1 with errno; a command that is not there
  * shows at the first roverivet_ask, and as status 127 of roverivet_close. */
 static inline int roverivet_open(struct roverivet *chip, const char *const *command, const char *start)
 {
-    const char *usual[] = {"./roverivet", "run", start ? "--start" : NULL, start, NULL};
+    const char *usual[] = {"./roverivet", "run", "--binary", start ? "--start" : NULL, start, NULL};
     int in[2], out[2];
     memset(chip, 0, sizeof *chip);
+    if (command)
+        roverivet_name(command[0]);
     if (socketpair(AF_UNIX, SOCK_STREAM, 0, in))
         return -1;
     if (pipe(out)) {
@@ -190,23 +206,73 @@ static inline int roverivet_line(struct roverivet *chip)
     }
 }
 
+static inline int roverivet_is(const struct roverivet_answer *answer, const char *word)
+{
+    return !strcmp(answer->word, word);
+}
+
+/* The line that an answer is printed as. */
+static inline void roverivet_print(const struct roverivet_answer *answer, char line[64])
+{
+    if (roverivet_is(answer, "ok"))
+        snprintf(line, 64, "%lu ok", answer->number);
+    else if (roverivet_is(answer, "ref"))
+        snprintf(line, 64, "%lu ref %u", answer->number, answer->value);
+    else if (roverivet_is(answer, "val"))
+        snprintf(line, 64, "%lu val %02x", answer->number, answer->value);
+    else
+        snprintf(line, 64, "%lu %s %03x", answer->number, answer->word, answer->value);
+}
+
 /* The word and the value of a printed line. Gives 0, or -1 if it is no answer. */
 static inline int roverivet_parse(const char *line, struct roverivet_answer *answer)
 {
-    char value[16] = "";
-    int words = sscanf(line, "%lu %3s %15s", &answer->number, answer->word, value);
-    const char *shape = !strcmp(answer->word, "ref") ? "%u" : "%x";
-    answer->value = 0;
-    if (words == 2)
-        return strcmp(answer->word, "ok") ? -1 : 0;
-    return words == 3 && sscanf(value, shape, &answer->value) == 1 ? 0 : -1;
+    char value[16] = "", same[64];
+    memset(answer, 0, sizeof *answer);
+    if (sscanf(line, "%lu %3s %15s", &answer->number, answer->word, value) < 2)
+        return -1;
+    if (sscanf(value, roverivet_is(answer, "ref") ? "%u" : "%x", &answer->value) != 1 && value[0])
+        return -1;
+    roverivet_print(answer, same);
+    return strcmp(line, same) ? -1 : 0;
 }
 
-/* Sends one record and waits for its answer. Gives 0, or -1 if the program ended, fell silent for a minute
- * or printed something else; a refusal is an answer (word "ref"). */
+/* Whether a record of this kind can have this answer: a word of its own, or one of its refusals. */
+static inline int roverivet_possible(unsigned kind, const struct roverivet_answer *answer)
+{
+    static const char *const refusals[] = {"8", "8321", "83", "8", "87", "8564", "8", "856", "8"};
+    int known = kind >= ROVERIVET_BURST && kind <= ROVERIVET_RESET;
+    if (roverivet_is(answer, "ref"))
+        return answer->value < 10 && strchr(refusals[known ? kind : 0], (int)('0' + answer->value)) != NULL;
+    if (kind == ROVERIVET_BURST)
+        return ((roverivet_is(answer, "rep") || roverivet_is(answer, "jam")) && answer->value < 0x200) ||
+               (roverivet_is(answer, "nil") && answer->value == 0);
+    if (kind == ROVERIVET_C_READ)
+        return roverivet_is(answer, "val") && !(answer->value & 0x3f);
+    if (kind == ROVERIVET_D_READ)
+        return roverivet_is(answer, "val");
+    return known && roverivet_is(answer, "ok");
+}
+
+/* Whether the program has printed something, or ended, within some milliseconds. */
+static inline int roverivet_printed(struct roverivet *chip, int patience)
+{
+    struct pollfd ready = {chip->out, POLLIN, 0};
+    int came;
+    do
+        came = chip->have ? 1 : poll(&ready, 1, patience);
+    while (came < 0 && errno == EINTR);
+    return came != 0;
+}
+
+/* Sends one record and waits for its answer. Gives 0, or -1 if the program ended, fell silent for a minute,
+ * or printed anything else than one answer that a record of this kind can have; a refusal is an answer (word
+ * "ref"). */
 static inline int roverivet_ask(struct roverivet *chip, const unsigned char record[ROVERIVET_SIZE], struct roverivet_answer *answer)
 {
     size_t sent = 0;
+    if (roverivet_printed(chip, 0))
+        return -1;
     while (sent < ROVERIVET_SIZE) {
         ssize_t more = send(chip->in, record + sent, ROVERIVET_SIZE - sent, MSG_NOSIGNAL);
         if (more < 0 && errno == EINTR)
@@ -219,22 +285,24 @@ static inline int roverivet_ask(struct roverivet *chip, const unsigned char reco
     if (length < 0)
         return -1;
     chip->came[length] = 0;
-    int wrong = roverivet_parse(chip->came, answer) || answer->number != ++chip->asked;
+    int wrong = roverivet_parse(chip->came, answer) || answer->number != ++chip->asked || !roverivet_possible(record[0], answer);
     chip->have -= (size_t)length + 1;
     memmove(chip->came, chip->came + length + 1, chip->have);
     return wrong ? -1 : 0;
 }
 
-/* Closes the program's input, which ends it, and waits. Gives its exit status, or -1. */
+/* Closes the program's input, which ends it, and waits. Gives its exit status, or -1 if it was killed or
+ * printed something after its last answer. */
 static inline int roverivet_close(struct roverivet *chip)
 {
     int status = 0;
     close(chip->in);
+    int surplus = roverivet_printed(chip, ROVERIVET_PATIENCE) && (chip->have || read(chip->out, chip->came, sizeof chip->came) > 0);
     close(chip->out);
     while (waitpid(chip->pid, &status, 0) < 0)
         if (errno != EINTR)
             return -1;
-    return WIFEXITED(status) ? WEXITSTATUS(status) : -1;
+    return WIFEXITED(status) && !surplus ? WEXITSTATUS(status) : -1;
 }
 
 /* ---- what firmware makes of it */

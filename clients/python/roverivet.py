@@ -7,12 +7,14 @@
         chip.burst('TP0', d=1000, n=64)          # Answer: rep, data to TP1 and AUI
         chip.read_counter('TP0', 'Readable Frames')
 
-A refused record raises Refused, with document 01's number and the reason found in the record. A chip is for
-one thread at a time. Nothing here models the chip: the answers are the program's. What stands here is the record's layout, the names
-of ports, registers and commands, and the refusals, for their reasons.
+A refused record raises Refused, with document 01's number and the reason found in the record. An answer that is
+missing, surplus, out of order, or that no record of its kind can have raises Ended. A chip is for one thread at a
+time. Nothing here models the chip: the answers are the program's. What stands here is the record's layout, the
+names of ports, registers and commands, and the refusals, for their reasons.
 
-Standard library only. Uses target/bin/run of the repository that this file stands in, or the program
-that the environment variable ROVERIVET_RUN names.
+Standard library only. Uses target/bin/run of the repository that this file stands in, or the program that the
+environment variable ROVERIVET_RUN names. A program other than the proved one, and one that is older than its
+sources, is named on standard error.
 """
 
 import os
@@ -21,6 +23,7 @@ import select
 import shutil
 import struct
 import subprocess
+import sys
 import tempfile
 import time
 import weakref
@@ -261,6 +264,12 @@ class Answer(NamedTuple):
     def outputs(self):
         return ports_of(self.value) if self.word in ('rep', 'jam', 'nil') else ()
 
+    @property
+    def words(self):
+        """The line without its number."""
+        shape = {'rep': ' {:03x}', 'jam': ' {:03x}', 'nil': ' {:03x}', 'val': ' {:02x}', 'ref': ' {}'}
+        return self.word + shape.get(self.word, '').format(self.value)
+
 
 def answer_of(line):
     found = LINE.fullmatch(line)
@@ -274,10 +283,34 @@ def answer_of(line):
     return Answer(int(number), ref or ok, int(refused or 0))
 
 
+# what a kind of record can be answered with: words, and numbers of refusals
+ANSWERS = {BURST: (('rep', 'jam', 'nil'), (8, 3, 2, 1)), PULSE: (('ok',), (8, 3)), TICK: (('ok',), (8,)),
+           C_WRITE: (('ok',), (8, 7)), D_WRITE: (('ok',), (8, 5, 6, 4)), C_READ: (('val',), (8,)),
+           D_READ: (('val',), (8, 5, 6)), RESET: (('ok',), (8,))}
+
+
+def impossible(piece, answer):
+    """Why no record of this kind can have this answer, or nothing."""
+    if len(piece) != SIZE:
+        name, words, refusals = f'piece of {len(piece)} bytes', (), (9,)
+    elif piece[0] not in ANSWERS:
+        name, words, refusals = f'record of unknown kind {piece[0]}', (), (8,)
+    else:
+        name, (words, refusals) = KINDS[piece[0]], ANSWERS[piece[0]]
+    fine = answer.value in refusals if answer.word == 'ref' else answer.word in words
+    if fine and answer.word in ('rep', 'jam', 'nil'):
+        fine = not answer.value >> 9 and (answer.word != 'nil' or not answer.value)
+    elif fine and answer.word == 'val' and piece[0] == C_READ:
+        fine = not answer.value & 0x3F
+    return '' if fine else f'the program answered {answer.words} to record {answer.number}, and no {name} can have that answer'
+
+
 # ---- the program
 
 HERE = Path(__file__).resolve().parent.parent.parent
 PROGRAM = HERE / 'target' / 'bin' / 'run'
+CHECKED = PROGRAM.parent / 'run.checked'  # touched when the sources were last found proved
+SOURCES = ('src', 'specs', 'proofs')
 START_SIZE = 530
 
 
@@ -286,7 +319,54 @@ class Missing(Exception):
 
 
 class Ended(Exception):
-    """The program ended, fell silent or printed something that is no answer."""
+    """The program ended, fell silent, or printed something else than the answers that were due."""
+
+
+def other():
+    """The program that ROVERIVET_RUN names in place of the proved one, or None."""
+    named = os.environ.get('ROVERIVET_RUN')
+    return None if not named or (os.path.exists(named) and PROGRAM.exists() and os.path.samefile(named, PROGRAM)) else named
+
+
+def is_fresh():
+    """Whether the proved program is there and nothing that it is made of is younger."""
+    if not PROGRAM.exists():
+        return False
+    built = max(path.stat().st_mtime for path in (PROGRAM, CHECKED) if path.exists())
+    return all(moment <= built for moment in _source_times())
+
+
+def _source_times():
+    """When each file was changed that the program is made of."""
+    if (HERE / 'crates.txt').exists():
+        yield (HERE / 'crates.txt').stat().st_mtime
+    folders = [str(path / name) for path in HERE.glob('crates/*') for name in SOURCES if (path / name).is_dir()]
+    while folders:
+        with os.scandir(folders.pop()) as entries:
+            for entry in entries:
+                if entry.is_dir():
+                    folders.append(entry.path)
+                else:
+                    yield entry.stat().st_mtime
+
+
+_said = set()
+assured = False  # whether ./roverivet has made sure, in this process, that the program is what its sources prove
+
+
+def _say_once(words):
+    """One line on standard error, once in a process."""
+    if words not in _said:
+        _said.add(words)
+        print(f'roverivet: {words}', file=sys.stderr, flush=True)
+
+
+def _name_program():
+    """Names a program that is not the proved one, or that is older than its sources."""
+    if other():
+        _say_once(f'the answers are those of {other()} (ROVERIVET_RUN), and not of the proved program')
+    elif not assured and not is_fresh():
+        _say_once('target/bin/run is older than its sources, so it is not what they prove: ./roverivet build')
 
 
 def command():
@@ -345,27 +425,21 @@ def launch(start=None, **pipes):
     """Starts the program as a process; `pipes` go to subprocess.Popen."""
     words, file = _start_words(start)
     try:
-        return subprocess.Popen(command() + words, env=_environment(), bufsize=0,
+        starting = command()
+        _name_program()
+        return subprocess.Popen(starting + words, env=_environment(), bufsize=0,
                                 pass_fds=[file.fileno()] if file else (), **pipes)
     finally:
         if file:
             file.close()
 
 
-def answers(data, start=None):
+def answers(data, start=None, patience=60):
     """The program's answers to a whole trace, as a list of Answer."""
-    with launch(start, stdin=subprocess.PIPE, stdout=subprocess.PIPE) as process:
-        printed = process.communicate(data)[0]
-    if process.returncode:
-        raise Ended(f'the program ended with status {process.returncode}')
-    try:
-        found = [answer_of(line) for line in printed.decode('ascii').split('\n')[:-1]]
-    except ValueError as error:
-        raise Ended(str(error)) from None
-    expected = -(-len(data) // SIZE)
-    if [a.number for a in found] != list(range(1, expected + 1)) or not printed.endswith(b'\n' if data else b''):
-        raise Ended(f'the program gave {len(found)} answers to {expected} records, or not in their order')
-    return found
+    with Running(start, patience) as program:
+        whole = len(data) - len(data) % SIZE
+        found = program.ask(data[:whole])
+        return found + (program.finish(data[whole:]) if data[whole:] else [])
 
 
 _running = weakref.WeakSet()
@@ -381,33 +455,57 @@ os.register_at_fork(after_in_child=_close_in_child)
 
 
 class Running:
-    """The program, started and kept. It ends when its standard input closes, thus with its harness too."""
+    """The program, started and kept. It ends when its standard input closes, thus with its harness too.
+
+    With `strict` an answer that no record of its kind can have is an error; explain tells such answers instead.
+    """
 
     BATCH = 1000  # records written before their answers are read: fewer bytes than a pipe holds
 
-    def __init__(self, start=None, patience=60):
+    def __init__(self, start=None, patience=60, strict=True):
         self.process = launch(start, stdin=subprocess.PIPE, stdout=subprocess.PIPE)
-        self.patience, self.asked, self.came, self.between = patience, 0, b'', True
+        self.patience, self.strict, self.asked, self.came, self.between = patience, strict, 0, b'', True
+        self.tally, self.trouble = None, None  # who is told each answer; the record and the words of the first error
+        self.ready = select.poll()
+        self.ready.register(self.process.stdout, select.POLLIN)
         _running.add(self)
 
     def ask(self, data):
         """The answers to some whole records, in their order."""
+        if self.process.stdin.closed:
+            raise Ended('the program has ended: its input was closed')
         if not self.between:
             raise Ended('an earlier call has failed or was cut short, so answers would be taken for others')
         found, self.between = [], False
-        for at in range(0, len(data), SIZE * self.BATCH):
-            batch = data[at:at + SIZE * self.BATCH]
-            self._write(batch)
-            found += [self._answer() for _ in range(-(-len(batch) // SIZE))]
+        try:
+            self._nothing_came()
+            for at in range(0, len(data), SIZE * self.BATCH):
+                found += self._batch(data[at:at + SIZE * self.BATCH])
+        except Ended as error:
+            self.trouble = self.trouble or (self.asked + 1, str(error))
+            raise
         self.between = True
         return found
 
     def finish(self, piece=b''):
         """Sends a last piece, of any length, closes the input and gives the answers that still came."""
+        self.between = False
+        self._nothing_came()
         self._write(piece)
         self.process.stdin.close()
-        found = [self._answer() for _ in range(-(-len(piece) // SIZE))]
+        found = [self._answer(piece[at:at + SIZE]) for at in range(0, len(piece), SIZE)]
+        self.between = True
+        if self.tally:
+            self.tally(piece, found)
         self.close()
+        return found
+
+    def _batch(self, batch):
+        self._write(batch)
+        pieces = (batch[at:at + SIZE] for at in range(0, len(batch), SIZE))
+        found = [self._answer(piece if len(piece) == SIZE else None) for piece in pieces]
+        if self.tally:
+            self.tally(batch, found)
         return found
 
     def _write(self, batch):
@@ -417,13 +515,22 @@ class Running:
         except (OSError, ValueError):
             raise Ended(f'the program has ended{self._status()}') from None
 
-    def _answer(self):
+    def _nothing_came(self):
+        """No answer may be there before its record is."""
+        if not self.came and self.ready.poll(0):
+            self.came = os.read(self.process.stdout.fileno(), 65536)
+            if not self.came:
+                raise Ended(f'the program has ended{self._status()}')
+        if self.came:
+            line = self.came.split(b'\n', 1)[0].decode('ascii', 'replace')
+            raise Ended(f'the program printed {line[:40]!r} before it was given record {self.asked + 1}')
+
+    def _answer(self, piece=None):
+        """The next answer; `piece` is its record, if it shall be held to that."""
         latest = time.monotonic() + self.patience
-        ready = select.poll()
-        ready.register(self.process.stdout, select.POLLIN)
         while b'\n' not in self.came:
             left = latest - time.monotonic()
-            if left <= 0 or not ready.poll(1000 * left):
+            if left <= 0 or not self.ready.poll(1000 * left):
                 raise Ended(f'the program gave no answer to record {self.asked + 1} in {self.patience} s')
             more = os.read(self.process.stdout.fileno(), 65536)
             if not more:
@@ -437,6 +544,9 @@ class Running:
         self.asked += 1
         if answer.number != self.asked:
             raise Ended(f'the program answered record {answer.number} when record {self.asked} was due')
+        wrong = impossible(piece, answer) if self.strict and piece is not None else ''
+        if wrong:
+            raise Ended(wrong)
         return answer
 
     def _status(self):
@@ -445,32 +555,55 @@ class Running:
         except subprocess.TimeoutExpired:
             return ''
 
-    def _close_pipes(self):
-        for pipe in (self.process.stdin, self.process.stdout):
-            try:
-                pipe.close()
-            except OSError:
-                pass
+    def _close(self, pipe):
+        try:
+            pipe.close()
+        except OSError:
+            pass
 
     def let_go(self):
         """Closes this process's ends of the pipes and waits for nobody."""
-        self._close_pipes()
+        self._close(self.process.stdin)
+        self._close(self.process.stdout)
         self.process.returncode = self.process.returncode or 0
 
     def close(self):
-        """Ends the program: closes its input and, if that is not enough, kills it."""
-        self._close_pipes()
+        """Ends the program: closes its input and, if that is not enough, kills it.
+
+        An answer that nobody asked for, or a bad end, is an error, if no error came before.
+        """
+        self._close(self.process.stdin)
+        more = self._rest() if self.between else b''
+        self._close(self.process.stdout)
         try:
-            self.process.wait(5)
+            status = self.process.wait(5)
         except subprocess.TimeoutExpired:
             self.process.kill()
-            self.process.wait()
+            status = self.process.wait()
         _running.discard(self)
+        fine, self.between = not self.between or not (more or status), False
+        if not fine:
+            told = more.split(b'\n', 1)[0].decode('ascii', 'replace')[:40]
+            words = f'the program printed {told!r} after its last answer' if more else f'the program ended with status {status}'
+            self.trouble = (self.asked, words)
+            raise Ended(words)
+
+    def _rest(self):
+        """What the program prints before it ends, or until there is something."""
+        try:
+            while not self.came and self.ready.poll(5000):
+                self.came = os.read(self.process.stdout.fileno(), 65536)
+                if not self.came:
+                    break
+        except (OSError, ValueError):
+            pass
+        return self.came
 
     def __enter__(self):
         return self
 
-    def __exit__(self, *_):
+    def __exit__(self, kind, *_):
+        self.between = self.between and kind is None
         self.close()
 
 
@@ -484,11 +617,34 @@ class Status(NamedTuple):
 
 
 class Chip:
-    """One chip pair at power-up, its counters and addresses 0 or those of `start` (a path or 530 bytes)."""
+    """One chip pair at power-up, its counters and addresses 0 or those of `start` (a path or 530 bytes).
 
-    def __init__(self, start=None, patience=60):
+    With `log`, the connection is an attempt of the test `name` in that file (roverivet_log.py). It is green if a
+    with block in the test ends without an exception, or if the harness calls `passed` before it closes the chip.
+    """
+
+    def __init__(self, start=None, patience=60, log=None, name=None):
+        self.attempt, self.claim, self.selected = None, None, (0, 0)
         self.program = Running(start, patience)
-        self.selected = (0, 0)
+        if log is not None:
+            self._begin(log, name, start)
+
+    def _begin(self, log, name, start):
+        import roverivet_log
+        try:
+            self.attempt = roverivet_log.begun(log, name, start)
+        except BaseException:
+            self.program.close()
+            raise
+        self.program.tally = self.attempt.take
+
+    def passed(self):
+        """The harness says that the test passed."""
+        self.claim = self.claim or ('green', '')
+
+    def failed(self, reason=''):
+        """The harness says that the test failed, whatever it says afterwards."""
+        self.claim = ('red', str(reason))
 
     # records
 
@@ -606,13 +762,21 @@ class Chip:
         return ports_of(self.get(0xD0))
 
     def close(self):
-        self.program.close()
+        self._close(sys.exc_info()[1], False)
 
     def __enter__(self):
         return self
 
-    def __exit__(self, *_):
-        self.close()
+    def __exit__(self, kind, error, _):
+        self._close(error, True)
+
+    def _close(self, error, within):
+        try:
+            self.program.__exit__(type(error) if error is not None else None)
+        finally:
+            if self.attempt:
+                import roverivet_log
+                roverivet_log.ended(self.attempt, self.program, self.claim, error, within)
 
 
 def _place(names, name):
