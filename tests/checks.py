@@ -40,11 +40,12 @@ def roverivet_command(*words, data=None, cwd=TOP, **more):
 
 
 def need_program():
-    """Builds the program if needed; ends with status 3 when there is none."""
-    from tools import build
+    """Builds the programs if needed; ends with status 3 when there is none."""
+    from tools import build, telling
     import roverivet
     try:
         build.ensure()
+        telling.usable()
     except roverivet.Missing as error:
         print(f'{os.path.basename(sys.argv[0])}: {error}', file=sys.stderr)
         print('0 passed, 1 failed')

@@ -1,6 +1,7 @@
 #!/usr/bin/env -S python3 -B
 """The verbs of ./roverivet: what they say, and exit statuses that mean something."""
 
+import json
 import os
 import subprocess
 import sys
@@ -112,6 +113,13 @@ def explains(checks):
             name = row.split()[0]
             result = roverivet_command('explain', f'traces/{name}.txt')
             checks.equal((result.returncode, result.stderr, b'FINDING' in result.stdout), (0, b'', False), f'explain {name}: no finding')
+    said = [json.loads(line) for line in roverivet_command('explain', '--json', 'traces/sample.txt').stdout.splitlines()]
+    checks.equal([(one['number'], one['record'], one['answer'], one['value']) for one in said[3:6]],
+                 [(4, 'pulse tp0+tp1', 'ok', 0), (5, 'burst tp0 d=1000 n=64', 'rep', 0x102), (6, 'c-write P=16', 'ok', 0)], 'explain --json: answers')
+    checks.equal([(one['page'], one['register'], one['passing'], one['partitioned'], one['changes'], one['credits']) for one in said[3:5]],
+                 [(0, 0, ['TP0', 'TP1'], [], {'TP link': 3}, {}), (0, 0, ['TP0', 'TP1'], [], {}, {'TP0': ['Readable Frames']})],
+                 'explain --json: what was left')
+    checks.equal((len(said), said[9]['answer'], said[9]['value'], said[9]['finding']), (10, 'ref', 8, None), 'explain --json: the refusal')
     print(f'explain: the sample, {len(WORDS)} more, and no finding in any trace by hand')
 
 

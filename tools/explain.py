@@ -1,6 +1,7 @@
 """Each record beside its answer, in words. What is said of a burst comes from the program (tools/watch.py)."""
 
 import functools
+import json
 
 import roverivet
 from roverivet import (BURST, C_READ, C_WRITE, CHANGES, COMMANDS, D_READ, D_WRITE, REGISTERS, RESET,
@@ -159,3 +160,20 @@ def lines(seens):
         piece, said = seen.piece, now
     if first:
         yield f'{first} {said}' if first == last else f'{first}-{last} {said}', 'FINDING' in said
+
+
+def objects(seens):
+    """A JSON object for each record. Yields (object, whether it has a finding)."""
+    for seen in seens:
+        yield as_json(seen), bool(finding(seen))
+
+
+def as_json(seen):
+    """One record as a JSON object: the answer, P and R as it met them, and what it left, with ports by their names."""
+    answer, left, wrong = seen.answer, seen.after, finding(seen)
+    return json.dumps({
+        'number': seen.number, 'record': text.described(seen.piece), 'answer': answer.word, 'value': answer.value,
+        'page': seen.selected[0], 'register': seen.selected[1],
+        'enabled': ports_of(left.enabled), 'passing': ports_of(left.passing), 'partitioned': ports_of(~left.connected & 0x1FF),
+        'changes': {CHANGES[register]: bits for register, bits in seen.changed.items()},
+        'credits': seen.credits, 'transmit collision': bool(seen.transmit_collision), 'finding': wrong or None})

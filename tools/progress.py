@@ -15,6 +15,7 @@ class Progress:
     def __init__(self, verb):
         self.verb, self.doing, self.done, self.total = verb, '', 0, None
         self.told, self.lock, self.over = False, threading.RLock(), threading.Event()
+        self.shown, self.onto = False, None  # whether there is a terminal to tell it on; standard output where it is none
 
     def stage(self, doing, total=None):
         """What is done from here on, in a word for the things that `add` counts."""
@@ -24,8 +25,18 @@ class Progress:
     def add(self, count=1):
         self.done += count
 
+    def counted(self, things):
+        """The things, counted as they are done, if anybody is told."""
+        return self._counted(things) if self.shown else things
+
+    def _counted(self, things):
+        for thing in things:
+            yield thing
+            self.done += 1
+
     def __enter__(self):
         if sys.stderr is not None and sys.stderr.isatty():
+            self.shown = True
             threading.Thread(target=self._tell, daemon=True).start()
         return self
 
@@ -68,7 +79,9 @@ class Progress:
 
     def print(self, line):
         """A line for standard output."""
-        if sys.stdout.isatty():
-            self.write(line.encode('utf-8', 'replace') + b'\n')
+        if self.onto is None:
+            self.onto = False if sys.stdout.isatty() else sys.stdout
+        if self.onto:
+            self.onto.write(line + '\n')
         else:
-            print(line)
+            self.write(line.encode('utf-8', 'replace') + b'\n')

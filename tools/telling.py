@@ -77,12 +77,6 @@ def telling_of(line):
     return Telling(roverivet.answer_of(line[:-TAIL].decode('ascii')), left_of(line[-TAIL:]))
 
 
-def as_dict(telling):
-    """A line as a dict of plain values, for JSON."""
-    answer, left = telling
-    return {'number': answer.number, 'word': answer.word, 'value': answer.value, **left._asdict()}
-
-
 # ---- the program
 
 

@@ -127,16 +127,11 @@ def explain_verb(args):
     one, start = taken(args)
     found = 0
     args.progress.stage('records', one.count)
-    for line, wrong in explain.lines(counted_seens(telling.watched(one.pieces(), start), args.progress)):
+    seens = args.progress.counted(telling.watched(one.pieces(), start))
+    for line, wrong in explain.objects(seens) if args.json else explain.lines(seens):
         args.progress.print(line)
         found += wrong
     return FINDING if found else FINE
-
-
-def counted_seens(seens, progress):
-    for seen in seens:
-        yield seen
-        progress.add()
 
 
 def talk(args):
@@ -174,7 +169,7 @@ def asked(prompt):
 def answer_line(chip, piece, times):
     found = 0
     with Progress('talk').stage('records', times) as progress:
-        for line, wrong in explain.lines(counted_seens((chip.take(piece) for _ in range(times)), progress)):
+        for line, wrong in explain.lines(progress.counted(chip.take(piece) for _ in range(times))):
             progress.print(line)
             sys.stdout.flush()
             found += wrong
@@ -191,7 +186,7 @@ def view(args):
         raise Bad(f'--from {args.first} --to {args.last}: expected record numbers from 1, the lower first')
     one, start = taken(args)
     args.progress.stage('records', one.count)
-    seens = list(counted_seens(telling.watched(itertools.islice(one.pieces(), args.last), start), args.progress))
+    seens = list(args.progress.counted(telling.watched(itertools.islice(one.pieces(), args.last), start)))
     for seen in seens:
         wrong = explain.finding(seen)
         if wrong:
@@ -312,6 +307,7 @@ def parser():
     one.add_argument('logs', metavar='LOG', nargs='+', help='a log, written by check --log, run --log or a client')
     one.add_argument('--since', metavar='POINT', help='a commit or a time, as 2026-11-15 or 2026-11-15T20:00: what came before does not count')
     one = verb('explain', 'run a trace and tell each record beside its answer, in words', explain_verb)
+    one.add_argument('--json', action='store_true', help='print a JSON object for each record instead')
     trace_options(one)
     one = verb('view', 'draw a run: a lane for each port, the change bits and their reads beneath', view)
     one.add_argument('-o', '--output', metavar='FILE', required=True, help='the picture, FILE.svg or FILE.html')
