@@ -2,15 +2,19 @@
 --   zero-supplied  == counters and addresses of 0 can be given
 --   sample-shown, sample-told == the answers of the sample run of document 01
 --   tale           == links, a frame, a collision that partitions, Sets, a Get, an enable, an address write
+--   one-shown      == the same answers and ports with counters that start at 1
 --   ports-shown, ports-told; counts-shown, counts-told; bits-shown, bits-told == the ports, the counters, the bits after it
 use Prim.Native.Nat.{ℕ, _<_}
 use mathlib.Core.Path.{_≡_, refl, ap}
 use mathlib.Core.Bool.{Bool, true, false}
 use mathlib.Core.List.{List, [], _∷_, _++_, map}
 use lib.Dec.{lit<}
-use lib.ListN.{length, getD}
+use lib.ListN.{length, getD, replicate}
 use Rattle.ports.specs.Sets.{has}
+use Rattle.burst.specs.declared.Word.the-variants.{Rep, Jam}
 use Rattle.repeater.specs.Door.{portAt}
+use Rattle.answer.specs.declared.Answer.{Answer}
+use Rattle.answer.specs.declared.Answer.the-variants.{Done, Sent, Value, Refused}
 use Rattle.attributes.proofs.NineLaws.{address-alike}
 use Rattle.himib.specs.Runs.{Point, Happening, happening, historyOf, runOf, answersIn, start, allAt, repeaterAt}
 use Rattle.himib.specs.Runs.{partitionedAt, linkedAt, enabledAt, counterAt, addressAt, transmitCollisions, totalOctets}
@@ -132,3 +136,13 @@ bits-shown = found-once happens bitsAt (start (allAt 0)) tale refl
 bits-told : bitsBy (deedsFrom [] tale) ≡ bits
 unfolding telling
 bits-told = refl
+
+-- WHATEVER IS GIVEN
+
+-- counters from 1 on: the sample's bursts are answered as from 0 on, and the ports stand so; the byte that the counter shows is another
+abbrev fromOne : List Answer
+fromOne = replicate 4 Done ++ (Sent Rep 0x102 ∷ Done ∷ Done ∷ Value 0x02 ∷ Sent Jam 0x103 ∷ Refused 8 ∷ [])
+
+one-shown : (answersIn (history (start (allAt 1)) sample) ≡ fromOne) × (found happens portsAt (start (allAt 1)) tale ≡ ports)
+unfolding step-computes happening runOf historyOf
+one-shown = (refl, found-once happens portsAt (start (allAt 1)) tale refl)
