@@ -3,3 +3,4 @@ pub mod Instance
 pub mod Ties
 pub mod Outcomes
 pub mod Program
+pub mod Printed

@@ -283,7 +283,7 @@ module _ (s : List ℕ) (bytes : (i : ℕ) → getD s i 0 < 256) where
   unfolding countersFrom
   counters-there i = each-length {A = ℕ} {B = ℕ} (λ r none. numberFrom s (i + 4 * r)) (replicate counterCount 0)
 
-  nine-proper : (n : ℕ) → Proper (nineUpTo s n)
+  pub nine-proper : (n : ℕ) → Proper (nineUpTo s n)
   unfolding nineUpTo portFrom
   nine-proper zero = proper-nothing
   nine-proper (suc n) =

@@ -2,3 +2,4 @@
 pub mod Ties
 pub mod Outcomes
 pub mod Program
+pub mod Printed
