@@ -1,9 +1,10 @@
 -- What a line of `tell` says. Assumes nothing.
 --   same-answer  == it begins with the line of the run program
+--   one-told     == two outcomes that `tell` allows are equal
 --   as-c-reads   == its word for interrupt and interface error is the byte that a C read of the same chip gives
 --   moved-where  == a port is in the word of a counter exactly if that counter of it differs
 use Prim.Native.Nat.{ℕ, _+_, _-_, _<_}
-use mathlib.Core.Path.{_≡_, refl, sym, ap, _∙_}
+use mathlib.Core.Path.{_≡_, refl, sym, ap, ap₂, _∙_}
 use mathlib.Core.List.{List, [], _∷_, _++_}
 use native.Mathlib.Omega.{arith}
 use lib.ListN.{length, length-append, take}
@@ -18,9 +19,17 @@ use Rattle.attributes.specs.declared.Nine.{Nine}
 use Rattle.attributes.specs.Nine.{counterOf}
 use Rattle.chip.specs.declared.Core.{Core}
 use Rattle.access.specs.Access.{cReadOf}
-use Rattle.himib.specs.Runs.{Happening}
-use Rattle.telling.specs.Telling.{spoken, spelt, toldAs, differ, movedOf, statusOf, wordsOf, tellOf, SameAnswer}
+use Rattle.himib.specs.Runs.{Point, Happening}
+use Rattle.telling.specs.declared.Told.{Told}
+use Rattle.telling.specs.Telling.{spoken, spelt, toldAs, differ, movedOf, statusOf, wordsOf, tellOf, OneTold, SameAnswer}
 use Rattle.telling.proofs.TellingLaws.{said-line}
+
+abbrev toldAt : Point → ℕ → Told
+toldAt p next = record { chip = p .chip; host = p .host; next = next }
+
+pub one-told : OneTold
+one-told s h n bs old place t u x y p q =
+    (ap₂ toldAt (p .after ∙ sym (q .after)) (p .wrote .next ∙ sym (q .wrote .next)), p .wrote .bytes ∙ sym (q .wrote .bytes))
 
 pub same-answer : SameAnswer
 unfolding tellOf toldAs

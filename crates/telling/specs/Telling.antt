@@ -12,6 +12,7 @@
 --   tellOf n h             == the line of record n, to which h happened
 --   Wrote                  == a line was put into a buffer
 --   Tells                  == what `tell` does
+--   OneTold                == two outcomes that `tell` allows are equal
 --   SameAnswer             == the line begins with the line of the run program, a space in the place of its newline
 -- Assumes nothing.
 use Prim.Native.Nat.{ℕ, _+_, _-_, _≤_}
@@ -116,6 +117,11 @@ pub record Wrote (old : List ℕ) (at : ℕ) (line new : List ℕ) (r : ℕ) : T
 pub record Tells (s : Chip) (h : Host) (n : ℕ) (bs old : List ℕ) (place : ℕ) (t : Told) (new : List ℕ) : Type 0 where
   pub after : at (t .chip) (t .host) ≡ happening (at s h) bs .after
   pub wrote : Wrote old place (tellOf n (happening (at s h) bs)) new (t .next)
+
+abbrev pub OneTold : Type 0
+OneTold =
+    (s : Chip) (h : Host) (n : ℕ) (bs old : List ℕ) (place : ℕ) (t u : Told) (x y : List ℕ) → Tells s h n bs old place t x → Tells s h n bs old place u y
+    → (t ≡ u) × (x ≡ y)
 
 abbrev pub SameAnswer : Type 0
 SameAnswer = (n : ℕ) (h : Happening) → take (length (lineOf n (h .answer)) - 1) (tellOf n h) ++ (newline ∷ []) ≡ lineOf n (h .answer)
