@@ -19,7 +19,6 @@ use lib.ListN.{length}
 use Rattle.ports.specs.Sets.{nobody, has, without, Only}
 use Rattle.ports.proofs.Sets.{and-first, and-second, has-without, set-true, gather-lt, count-one}
 use Rattle.record.specs.declared.Burst.{Burst}
-use Rattle.repeater.specs.declared.Repeater.{Repeater}
 use Rattle.repeater.specs.Repeater.{partitionedOf}
 use Rattle.repeater.proofs.Kept.{partitioned-lt}
 use Rattle.attributes.specs.declared.Share.{Share}

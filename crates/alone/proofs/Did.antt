@@ -5,16 +5,16 @@
 --   repeater-next  == so is the repeater
 use Prim.Native.Nat.{ℕ, _/_, _%_, _≤_, _<_}
 use mathlib.Core.Path.{_≡_, refl, sym, ap, _∙_}
-use mathlib.Core.Bool.{Bool, true, false, cond, not, _&&_, true≢false, false≢true}
-use mathlib.Core.List.{List, [], _∷_}
+use mathlib.Core.Bool.{Bool, true, false, cond, not, true≢false}
+use mathlib.Core.List.{List, _∷_}
 use mathlib.Core.Logic.{_⊎_, ⊎-elim}
 use native.Mathlib.Omega.{arith}
-use borrow.Author.Tests.{eqb-true, eqb-false, ltb-true}
+use borrow.Author.Tests.{ltb-true}
 use lib.Dec.{eqb}
 use lib.ListN.{length}
 use Rattle.ports.specs.Sets.{nobody, portCount}
 use Rattle.ports.specs.declared.Quiet.the-variants.{Pulse, Tick}
-use Rattle.ports.proofs.Sets.{and-first, and-second}
+use Rattle.ports.proofs.Sets.{and-second}
 use Rattle.management.specs.declared.Command.{Command}
 use Rattle.management.specs.declared.Command.the-variants.{Set, Get, Unlisted}
 use Rattle.management.specs.Commands.{commandOf}
@@ -25,7 +25,6 @@ use Rattle.record.specs.declared.Asked.the-variants as ask
 use Rattle.record.specs.Refusals.{recordOf}
 use Rattle.record.specs.Accepted.{Bounded}
 use Rattle.record.proofs.Accepted.{bounded-as}
-use Rattle.repeater.specs.declared.Repeater.{Repeater}
 use Rattle.host.specs.declared.Host.{Host}
 use Rattle.host.specs.declared.Row.{Row}
 use Rattle.host.specs.declared.Register.{Register}
@@ -33,25 +32,23 @@ use Rattle.host.specs.declared.Register.the-variants as reg
 use Rattle.host.specs.declared.Role.{Role}
 use Rattle.host.specs.declared.Role.the-variants.{Plain, Cleared, Commands, Enables, Address}
 use Rattle.host.specs.Map.{table, rowAt}
-use Rattle.host.specs.Stands.{fitsRole, rowOf, listed, proper, meant}
+use Rattle.host.specs.Stands.{fitsRole, listed, proper, meant}
 use Rattle.host.specs.Sequence.{selected, readByte, wroteByte}
 use Rattle.host.proofs.Listed.{every-row, row-fits, row-listed, row-of-register, proper-register, proper-role}
 use Rattle.answer.specs.declared.Answer.the-variants.{Done}
 use Rattle.attributes.specs.declared.Nine.{Nine}
 use Rattle.chip.specs.declared.Core.{Core}
-use Rattle.chip.specs.declared.Chip.{Chip}
-use Rattle.chip.specs.Chip.{moved, withCore}
+use Rattle.chip.specs.Chip.{moved}
 use Rattle.access.specs.declared.Acted.{Acted}
 use Rattle.access.specs.Access.{readBy, obeyed, isListed, strange, writtenBy, turnedAway, selectedBy, cReadOf, readOf, writeOf, dReadOf, dWriteOf, served}
-use Rattle.himib.specs.declared.Stepped.{Stepped}
 use Rattle.himib.specs.Bursts.{burstCore, notedOn, burstOn}
-use Rattle.himib.specs.Step.{addressedAt, afterAccess, turned, taken, stepOf}
+use Rattle.himib.specs.Step.{afterAccess, taken, stepOf}
 use Rattle.himib.specs.Runs.{Point, repeaterAt}
 use Rattle.himib.proofs.HimibLaws.{addressed-nobody}
 use Rattle.pass.proofs.HostPast.{source-six}
 use Rattle.past.specs.Deeds.{Deed, bursts, pulses, ticks, commands, uses, resets, refused, Use, selectsP, selectsR, allows, addresses, asks, reads}
 use Rattle.past.specs.Deeds.{selecting, commanding, writing, writingTo, readingOf, accessing, deedOf, pageBy, registerBy, deedAfter}
-use Rattle.alone.specs.Doing.{readFrom, addressing, usedAt, doing, next, obeying, repeaterBy, ProperUse, Proper}
+use Rattle.alone.specs.Doing.{readFrom, usedAt, doing, next, obeying, repeaterBy, ProperUse, Proper}
 
 -- LAWS OF ROWS
 

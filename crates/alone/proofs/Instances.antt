@@ -29,7 +29,7 @@ use Rattle.past.specs.Addresses.{addressBy, counterBy}
 use Rattle.past.specs.Status.{sqeBy, gBy}
 use Rattle.past.specs.Changes.{changeBy, allowedBy, errorBy}
 use Rattle.past.specs.Answers.{answersBy}
-use Rattle.past.specs.Sheet.{burst, clash, both, auiPort, tested, someone, up, frame, throughS, throughG, select, writes, enable, sample, sampleAnswers}
+use Rattle.past.specs.Sheet.{burst, clash, both, auiPort, tested, someone, up, frame, throughS, select, writes, enable, sample, sampleAnswers}
 use Rattle.past.specs.Sheet as sheet
 use Rattle.past.proofs.Computing.{telling}
 use Rattle.alone.specs.Judged.{happens, history}

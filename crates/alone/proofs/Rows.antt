@@ -19,7 +19,7 @@ use Rattle.access.specs.Access.{valueOf, selectedBy}
 use Rattle.access.proofs.Values.{value-six}
 use Rattle.himib.specs.Runs.{Point}
 use Rattle.pass.proofs.HostPast.{Row, begun, up-first, written-on, Sixes, copied-six, whole-at, bytes-at}
-use Rattle.past.specs.Deeds.{Deed, Use, bursts, pulses, ticks, commands, uses, resets, refused, selectsP, selectsR, allows, addresses, asks, reads}
+use Rattle.past.specs.Deeds.{Deed, bursts, pulses, ticks, commands, uses, resets, refused, selectsP, selectsR, allows, addresses, asks, reads}
 use Rattle.past.specs.Addresses.{inARow, completes, lastSix}
 use Rattle.alone.specs.Doing.{usedAt, doing, next, Proper}
 use Rattle.alone.specs.Selected.{StandsOn}

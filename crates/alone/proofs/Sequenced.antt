@@ -2,9 +2,9 @@
 --   stands-on      == a deed is done to the register that the past selects
 --   sequenced-up, sequenced-next == kept from deed to deed
 --   read-seen      == the byte that a D read gives
-use Prim.Native.Nat.{ℕ, zero, suc, _+_, _/_, _%_, _≤_, _<_}
-use mathlib.Core.Path.{_≡_, refl, sym, ap, subst, _∙_}
-use mathlib.Core.Bool.{Bool, true, false, cond, not, true≢false, false≢true}
+use Prim.Native.Nat.{ℕ, zero, suc, _+_, _/_, _%_, _<_}
+use mathlib.Core.Path.{_≡_, refl, sym, ap, _∙_}
+use mathlib.Core.Bool.{Bool, true, false, cond, not}
 use mathlib.Core.List.{List, [], _∷_}
 use native.Mathlib.Omega.{arith}
 use native.Mathlib.Nat.{mod-lt, mod-eq-of-lt, mod-self, suc-mod, zero-mod}
@@ -25,12 +25,12 @@ use Rattle.host.specs.declared.Role.{Role}
 use Rattle.host.specs.declared.Role.the-variants.{Plain, Cleared, Commands, Enables, Address}
 use Rattle.host.specs.declared.Register.{Register}
 use Rattle.host.specs.Map.{rowAt}
-use Rattle.host.specs.Sequence.{powerUp, restarted, withSelection, withSequence, placeFor, nextPlace, copied, readByte, wroteByte}
+use Rattle.host.specs.Sequence.{powerUp, withSelection, placeFor, nextPlace, copied, readByte}
 use Rattle.host.proofs.Places.{next-on, next-over, goes-on, at-first}
 use Rattle.host.proofs.Afresh.{turned-to-reading}
 use Rattle.access.specs.Access.{selectedBy, valueOf}
 use Rattle.himib.specs.Runs.{Point}
-use Rattle.past.specs.Deeds.{Deed, bursts, pulses, ticks, commands, uses, resets, refused, Use, selectsP, selectsR, allows, addresses, asks, reads}
+use Rattle.past.specs.Deeds.{Deed, bursts, pulses, ticks, commands, uses, resets, refused, selectsP, selectsR, allows, addresses, asks, reads}
 use Rattle.past.specs.Deeds.{selecting, commanding, writing, writingTo, readingOf, accessing, deedOf, pageBy, registerBy, deedAfter}
 use Rattle.past.specs.Reads.{Start, byteBy, readsInARow, remainder, placeBy, back, copiedBy, readBy}
 use Rattle.alone.specs.Doing.{usedAt, doing, next}

@@ -5,29 +5,24 @@
 --   answers-by-past, all-answers-by-past == every answer
 --   whatever-is-given == ports, bursts' answers and change bits of R 0 to 4 do not depend on what power-up is given
 use Prim.Native.Nat.{ℕ, zero, suc, _<_}
-use mathlib.Core.Path.{_≡_, refl, sym, ap, ap₂, subst, _∙_}
-use mathlib.Core.Bool.{Bool, true, _&&_, _||_, not}
+use mathlib.Core.Path.{_≡_, refl, sym, ap₂, _∙_}
+use mathlib.Core.Bool.{Bool, _&&_, _||_, not}
 use mathlib.Core.List.{List, [], _∷_}
 use native.Mathlib.Omega.{arith}
 use borrow.Author.Tests.{lt-ltb}
-use lib.Dec.{ltb}
 use lib.ListN.{getD}
-use Rattle.ports.specs.Sets.{aui, has}
-use Rattle.history.specs.Exactly.{Exactly}
-use Rattle.history.specs.History.{since, Struck, struck}
+use Rattle.ports.specs.Sets.{aui}
+use Rattle.history.specs.History.{since}
 use Rattle.history.proofs.Past.{struck-exactly}
 use Rattle.record.specs.declared.Burst.{Burst}
-use Rattle.record.specs.declared.Asked.{Asked}
 use Rattle.record.specs.declared.Asked.the-variants as ask
 use Rattle.record.specs.Refusals.{recordOf}
 use Rattle.repeater.specs.declared.Those.the-variants.{Linked, Enabled}
-use Rattle.repeater.specs.Repeater.{among, linkedOf, enabledOf}
+use Rattle.repeater.specs.Repeater.{among}
 use Rattle.repeater.proofs.DoorLaws.{those-has}
-use Rattle.host.specs.Map.{rowAt}
-use Rattle.answer.specs.declared.Answer.{Answer}
 use Rattle.chip.specs.declared.Supply.{Supply}
 use Rattle.himib.specs.Runs.{Point, start, repeaterAt, partitionedAt, linkedAt, enabledAt}
-use Rattle.past.specs.Deeds.{Deed, bursts, deedOf, deedAfter, pageBy, registerBy, deedsFrom}
+use Rattle.past.specs.Deeds.{Deed, bursts, deedOf, deedAfter}
 use Rattle.past.specs.Since.{cameSince}
 use Rattle.past.specs.Settings.{enabledBy}
 use Rattle.past.specs.Link.{passesBy}
@@ -36,9 +31,8 @@ use Rattle.past.specs.Changes.{changes, clears, changeBy}
 use Rattle.past.specs.Reads.{Start, remainder, placeBy}
 use Rattle.past.specs.Answers.{answerBy, answerTo}
 use Rattle.alone.specs.Seen.{startOf}
-use Rattle.alone.specs.Judged.{happens, run}
-use Rattle.alone.specs.Alone.{pastOf, after, Supplied, SetAs, SettingsByPast, LinksByPast, PartitionByRecords, CountersByRecords, StatusByPast, PlacesByPast}
-use Rattle.alone.specs.Alone.{AnswersByPast, AllAnswersByPast, SamePorts, WhateverIsGiven}
+use Rattle.alone.specs.Alone.{pastOf, after, Supplied, SettingsByPast, LinksByPast, PartitionByRecords, CountersByRecords, StatusByPast, PlacesByPast}
+use Rattle.alone.specs.Alone.{AnswersByPast, AllAnswersByPast, WhateverIsGiven}
 use Rattle.alone.proofs.Link.{linked}
 use Rattle.alone.proofs.Partition.{partitioned-mask}
 use Rattle.alone.proofs.Whole.{Whole, whole-up, whole-run, answer-after, answers-run}

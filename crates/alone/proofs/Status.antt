@@ -33,7 +33,7 @@ use Rattle.repeater.specs.declared.Those.the-variants.{Partitioned}
 use Rattle.repeater.specs.Door.{putAt, eachPort}
 use Rattle.repeater.specs.Reset.{powerUp}
 use Rattle.repeater.specs.Answers.{answerOf, connectedAt}
-use Rattle.repeater.specs.Repeater.{quieted, burstOf, followed, changedAt, changedTp, setTo, gotOf, among, partitionedOf}
+use Rattle.repeater.specs.Repeater.{quieted, burstOf, followed, changedAt, changedTp, setTo, gotOf, among}
 use Rattle.repeater.proofs.DoorLaws.{those-has}
 use Rattle.access.specs.Access.{isListed}
 use Rattle.himib.specs.Bursts.{activityOf}

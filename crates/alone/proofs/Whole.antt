@@ -4,21 +4,17 @@
 --   answer-seen         == the answer to a deed
 use Prim.Native.Nat.{ℕ, _<_}
 use mathlib.Core.Path.{_≡_, refl, sym, ap, ap₂, subst, _∙_}
-use mathlib.Core.Bool.{Bool, true}
 use mathlib.Core.List.{List, [], _∷_}
 use native.Mathlib.Omega.{arith}
 use borrow.Author.Tests.{lt-ltb}
-use lib.Dec.{ltb}
 use lib.ListN.{getD}
 use Rattle.record.specs.declared.Burst.{Burst}
 use Rattle.repeater.specs.declared.Repeater.{Repeater}
 use Rattle.host.specs.declared.Host.{Host}
-use Rattle.host.specs.declared.Row.{Row}
 use Rattle.host.specs.declared.Register.{Register}
 use Rattle.host.specs.Map.{rowAt}
-use Rattle.host.specs.Stands.{rowOf}
 use Rattle.answer.specs.declared.Answer.{Answer}
-use Rattle.answer.specs.declared.Answer.the-variants.{Sent, Value}
+use Rattle.answer.specs.declared.Answer.the-variants.{Value}
 use Rattle.chip.specs.declared.Supply.{Supply}
 use Rattle.access.specs.Access.{selectedBy, valueOf}
 use Rattle.himib.specs.declared.Stepped.{Stepped}

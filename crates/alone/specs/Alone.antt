@@ -6,7 +6,7 @@ use mathlib.Core.Path.{_≡_}
 use mathlib.Core.Bool.{true, false}
 use mathlib.Core.List.{List, []}
 use lib.ListN.{length, getD}
-use Rattle.ports.specs.Sets.{has, gather}
+use Rattle.ports.specs.Sets.{has}
 use Rattle.history.specs.Exactly.{Exactly}
 use Rattle.history.specs.History.{since, Struck}
 use Rattle.record.specs.declared.Burst.{Burst}
@@ -21,10 +21,10 @@ use Rattle.pass.specs.Pass.{bytesOf}
 use Rattle.past.specs.Deeds.{Deed, deedsFrom}
 use Rattle.past.specs.Settings.{enabledBy, testedBy, alternateBy}
 use Rattle.past.specs.Link.{passesBy}
-use Rattle.past.specs.Partition.{allEvents, partitionedBy}
+use Rattle.past.specs.Partition.{allEvents}
 use Rattle.past.specs.Credits.{sumBy, collisionBy, octetsBy}
 use Rattle.past.specs.Addresses.{addressBy, counterBy}
-use Rattle.past.specs.Status.{rateBy, sqeBy, loopbackBy, jabberBy, gBy}
+use Rattle.past.specs.Status.{gBy}
 use Rattle.past.specs.Changes.{changeBy, allowedBy, errorBy}
 use Rattle.past.specs.Reads.{Start, placeBy}
 use Rattle.past.specs.Answers.{answersBy, answerTo}

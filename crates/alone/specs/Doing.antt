@@ -4,10 +4,9 @@
 --   repeaterBy d r == the repeater after it
 --   Proper d       == the bounds of what a deed carries
 -- Assumes nothing.
-use Prim.Native.Nat.{ℕ, _+_, _*_, _≤_, _<_}
+use Prim.Native.Nat.{ℕ, _+_, _<_}
 use mathlib.Core.Path.{_≡_}
-use mathlib.Core.Bool.{Bool, true, false, cond}
-use mathlib.Core.List.{List}
+use mathlib.Core.Bool.{true, false, cond}
 use lib.ListN.{length, set}
 use Rattle.ports.specs.Sets.{nobody}
 use Rattle.ports.specs.declared.Quiet.the-variants.{Pulse, Tick}
@@ -26,7 +25,7 @@ use Rattle.host.specs.declared.Register.the-variants as reg
 use Rattle.host.specs.Map.{within, bitRegisters}
 use Rattle.host.specs.Stands.{proper, listed, rowOf}
 use Rattle.host.specs.Sequence.{powerUp, restarted, withSelection, readByte, wroteByte}
-use Rattle.answer.specs.declared.Answer.the-variants.{Done, Value}
+use Rattle.answer.specs.declared.Answer.the-variants.{Value}
 use Rattle.changes.specs.Changes.{keptBits, pending, bit7}
 use Rattle.chip.specs.declared.Core.{Core}
 use Rattle.chip.specs.declared.Chip.{Chip}

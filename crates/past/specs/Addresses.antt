@@ -9,7 +9,7 @@ use Prim.Native.Nat.{ℕ, _+_, _-_, _%_, _^_}
 use mathlib.Core.Bool.{Bool, true, false, cond, not, _&&_}
 use mathlib.Core.List.{List, [], _∷_, _++_}
 use lib.Dec.{eqb}
-use lib.ListN.{length, getD, drop}
+use lib.ListN.{length, drop}
 use Rattle.past.specs.Deeds.{Deed, Use, selectsP, selectsR, allows, addresses, asks, reads, isReset, ifBurst, ifUse}
 use Rattle.past.specs.Partition.{heardBy}
 use Rattle.past.specs.Credits.{creditOf, partitionCredit, framesAt, sumBy, if}

@@ -8,10 +8,9 @@
 --   sumBy f past      == the sum of f over the deeds of a past
 -- Assumes nothing.
 use Prim.Native.Nat.{ℕ, _+_}
-use mathlib.Core.Bool.{Bool, false, cond, not, _&&_, _||_}
+use mathlib.Core.Bool.{Bool, false, cond, not, _&&_}
 use mathlib.Core.List.{List, [], _∷_}
 use lib.Dec.{eqb, leb, ltb}
-use lib.Count.{ones}
 use Rattle.ports.specs.Sets.{has}
 use Rattle.record.specs.declared.Burst.{Burst}
 use Rattle.past.specs.Deeds.{Deed, ifBurst}

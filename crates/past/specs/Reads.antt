@@ -6,10 +6,8 @@
 --   copiedBy past size == the past before the read that made the copy: the first of the sequence
 --   readBy start past register size == the byte that a D read gives
 -- Assumes nothing.
-use Prim.Native.Nat.{ℕ, zero, suc, _+_, _-_, _/_, _%_, _^_}
-use mathlib.Core.Bool.{Bool, cond, _||_}
+use Prim.Native.Nat.{ℕ, zero, suc, _+_, _/_, _%_, _^_}
 use mathlib.Core.List.{List, [], _∷_}
-use lib.Dec.{eqb}
 use lib.ListN.{length, getD}
 use Rattle.ports.specs.Sets.{gather}
 use Rattle.host.specs.declared.Register.{Register}
