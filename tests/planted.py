@@ -56,11 +56,11 @@ rule('flag_bit_5_means_nothing', 'Record', 'Flag bits 5 to 7 are zero.', 'bit 5 
            'lib', 'const FLAGS_END: u8 = 32;', 'const FLAGS_END: u8 = 64;'))
 rule('byte_13_of_a_burst', 'Record', 'A burst leaves byte 13 zero.', 'it may hold anything',
      *both('record', 'Record', 'dribble ∷ collisionStart ∷', 'dribble ∷ written ∷ collisionStart ∷',
-           'lib', 'byte(bytes[13]) + byte(bytes[14]) + byte(bytes[15])', 'byte(bytes[14]) + byte(bytes[15])'))
+           'lib', 'bytes[13] | bytes[14] | bytes[15]', 'bytes[14] | bytes[15]'))
 rule('dribble_in_byte_13', 'Record', 'k stands in byte 12 and the written byte in byte 13.', 'the other way round, in a burst',
      *both('record', 'Record', 'place dribble = (12, 12)', 'place dribble = (13, 13)', 'lib', 'k: bytes[12],', 'k: bytes[13],'),
      *both('record', 'Record', 'place written = (13, 13)', 'place written = (12, 12)',
-           'lib', 'byte(bytes[13]) + byte(bytes[14]) + byte(bytes[15])', 'byte(bytes[12]) + byte(bytes[14]) + byte(bytes[15])'))
+           'lib', 'bytes[13] | bytes[14] | bytes[15]', 'bytes[12] | bytes[14] | bytes[15]'))
 rule('source_one_byte_later', 'Record', 'The source address stands in bytes 24 to 29.', 'in bytes 25 to 30',
      *both('record', 'Record', 'place source = (24, 29)', 'place source = (25, 30)',
            'lib', '            bytes[24],\n            bytes[25],', '            bytes[25],'),
@@ -126,13 +126,13 @@ rule('signal_makes_no_activity', 'Burst', 'E is the mask, and AUI by its collisi
            'lib', 'return self.mask | ports::only(ports::AUI);', 'return self.mask;'))
 rule('disabled_ports_are_sent_to', 'Burst', 'T are the enabled ports that pass their link.', 'disabled ones too',
      *both('repeater', 'Hearing', 'transmits i p = p .enabled && (eqb i aui || p .«link_pass»)', 'transmits i p = eqb i aui || p .«link_pass»',
-           'lib', 'p.enabled & ((i == ports::AUI) | p.link_pass)', '(i == ports::AUI) | p.link_pass'))
+           'lib', 'ports.enabled() & (ports.passing() | ports::only(ports::AUI))', 'ports.passing() | ports::only(ports::AUI)'))
 rule('failing_links_are_sent_to', 'Burst', 'T are the enabled ports that, for TP, pass their link.', 'all enabled ports',
      *both('repeater', 'Hearing', 'transmits i p = p .enabled && (eqb i aui || p .«link_pass»)', 'transmits i p = p .enabled',
-           'lib', 'p.enabled & ((i == ports::AUI) | p.link_pass)', 'p.enabled'))
+           'lib', 'ports.enabled() & (ports.passing() | ports::only(ports::AUI))', 'ports.enabled()'))
 rule('partitioned_ports_are_heard', 'Burst', 'L are the connected ports of T.', 'all of T',
      *both('repeater', 'Hearing', 'listens i p = transmits i p && not (p .partitioned)', 'listens i p = transmits i p',
-           'lib', 'is_transmitting(i, p) & !p.partitioned', 'is_transmitting(i, p)'))
+           'lib', 'ports::less(transmitting(ports), ports.partitioned())', 'transmitting(ports)'))
 rule('two_are_one', 'Burst', 'A count of one makes a single port.', 'a count of two does',
      *both('burst', 'Burst', '(cond (eqb (ones h) 1)', '(cond (eqb (ones h) 2)', 'lib', 'if n == 1 {', 'if n == 2 {'))
 rule('sets_from_after_the_burst', 'Burst', 'E, T, L and H are those from before the burst.', 'from after it',
@@ -252,10 +252,15 @@ rule('alternate_as_standard', 'Partition', 'By the alternate algorithm only data
       'same-set (reconnectingAt (a .self) (a .activity) (a .clean) (a .alternate)) _ (omega arith)'))
 rule('algorithms_exchanged', 'Partition', "AUI goes by its own algorithm, the TP ports by theirs.", 'the other way round',
      *both('repeater', 'Repeater', 'alternateFor forAui forTp i = cond (eqb i aui) forAui forTp', 'alternateFor forAui forTp i = cond (eqb i aui) forTp forAui',
-           'lib', 'algorithm(back_aui, back_tp, i),', 'algorithm(back_tp, back_aui, i),'))
+           'lib', 'algorithms(back_aui, back_tp),', 'algorithms(back_tp, back_aui),'))
 rule('ports_outside_t_counted', 'Partition', 'A port outside T keeps state and count.', 'every port takes the step',
      *both('repeater', 'Repeater', 'partitionedAt t meeting i p = cond (has t i) (afterMeeting meeting p) p', 'partitionedAt t meeting i p = afterMeeting meeting p',
-           'lib', '    if ports::contains(t, i) {\n        return p.meet(meeting);\n    }\n    p\n', '    p.meet(meeting)\n'))
+           'lib', 't: hearing.t,', 't: ports::ALL,'))
+rule('reconnected_by_its_own_collision', 'Partition', 'What a burst makes of a port is not seen by that burst.', 'a port that it partitions may be connected again by it',
+     *both('store', 'Door', '(afterMeeting (record { collided = has (b .collided) i; clean = has (b .clean) i; reconnecting = has (b .back) i; x = b .x }) p)',
+           '(afterMeeting (record { collided = false; clean = false; reconnecting = has (b .back) i; x = b .x }) (afterMeeting (record { collided = has (b .collided) i; clean = has (b .clean) i; reconnecting = has (b .back) i; x = b .x }) p))',
+           'lib', 'let back = sent & self.partitioned & b.back;', 'let hit = visit_all(rows, connected & b.collided, Visit::Collide(last_before(b.x)));\n        let back = sent & (self.partitioned | hit.full) & b.back;'),
+     ('store/specs/Door.antt', 'use mathlib.Core.Bool.{Bool, cond}', 'use mathlib.Core.Bool.{Bool, false, cond}'))
 rule('link_failure_reconnects', 'Partition', 'A failing link leaves the partition.', 'it connects the port',
      ('port/specs/Link.antt', '(cond (leb linkFailsAt (p .idle + 1)) (withLink p false 0 0)', '(cond (leb linkFailsAt (p .idle + 1)) (withLink (withPartition p false 0) false 0 0)'),
      ('port/specs/Link.antt', 'use Rattle.port.specs.Port.{withLink}', 'use Rattle.port.specs.Port.{withLink, withPartition}'),
@@ -302,13 +307,13 @@ rule('activity_brings_no_pass', 'Link (TP)', 'A mask bit zeroes idle and pulses,
       '            self.idle = 0;\n            self.pulses = 0;\n            return self;\n        }\n        self\n    }\n\n    // Whether a collision'))
 rule('disabled_ports_tick_not', 'Link (TP)', 'A disabled port counts ticks too.', 'it does not',
      ('port/specs/Link.antt', 'tickedAt i p = cond (ltb i aui) (ticked p) p', 'tickedAt i p = cond (ltb i aui) (cond (p .enabled) (ticked p) p) p'),
-     ('repeater/src/lib.rt', '    if i < ports::AUI {\n        return p.tick();\n    }', '    if i < ports::AUI {\n        if p.enabled {\n            return p.tick();\n        }\n        return p;\n    }'))
+     ('store/src/lib.rt', 'visit_all(rows, self.tested & ports::TP, Visit::Tick)', 'visit_all(rows, self.tested & self.enabled & ports::TP, Visit::Tick)'))
 rule('disabled_ports_pulse_not', 'Link (TP)', 'A disabled port counts pulses too.', 'it does not',
      ('port/specs/Link.antt', 'pulsedAt mask i p = cond (ltb i aui) (cond (has mask i) (pulsed p) p) p', 'pulsedAt mask i p = cond (ltb i aui) (cond (has mask i) (cond (p .enabled) (pulsed p) p) p) p'),
-     ('repeater/src/lib.rt', '            return p.pulse();', '            if p.enabled {\n                return p.pulse();\n            }\n            return p;'))
+     ('store/src/lib.rt', 'let reached = mask & self.tested & ports::TP;\n        let hushed', 'let reached = mask & self.tested & self.enabled & ports::TP;\n        let hushed'))
 rule('disabled_ports_revive_not', 'Link (TP)', "A disabled port's mask bit counts too.", 'it does not',
      ('port/specs/Link.antt', 'revivedAt mask i p = cond (ltb i aui) (cond (has mask i) (revived p) p) p', 'revivedAt mask i p = cond (ltb i aui) (cond (has mask i) (cond (p .enabled) (revived p) p) p) p'),
-     ('repeater/src/lib.rt', '            return p.revive();', '            if p.enabled {\n                return p.revive();\n            }\n            return p;'))
+     ('store/src/lib.rt', 'let reached = mask & self.tested & ports::TP;\n        let revived', 'let reached = mask & self.tested & self.enabled & ports::TP;\n        let revived'))
 rule('ticks_without_link_test', 'Link (TP)', 'Without link test no tick counts.', 'ticks do',
      ('port/specs/Link.antt', 'ticked p =\n    cond (p .«link_test»)\n', 'ticked p =\n    cond true\n'),
      ('port/src/lib.rt', '        if self.link_test {\n            if Port::LINK_FAILS_AT', '        if true {\n            if Port::LINK_FAILS_AT'))

@@ -8,15 +8,11 @@ use mathlib.Core.Bool.{Bool, true, false}
 use mathlib.Core.List.{List, [], _∷_, _++_, map}
 use lib.ListN.{replicate}
 use Rattle.ports.specs.Sets.{has}
-use Rattle.management.specs.Commands.{commandOf}
 use Rattle.port.specs.declared.Port.{Port}
-use Rattle.port.specs.Link.{ticked, pulsed, tickedAt, pulsedAt}
-use Rattle.port.specs.Settings.{changed}
-use Rattle.ports.specs.Each.{each}
 use Rattle.repeater.specs.declared.Repeater.{Repeater}
-use Rattle.repeater.specs.Door.{portAt, putAt, eachPort}
+use Rattle.repeater.specs.Door.{portAt}
 use Rattle.repeater.specs.Reset.{powerUp}
-use Rattle.repeater.specs.Repeater.{quieted, changedAt, changedTp, setTo}
+use Rattle.repeater.proofs.Computing.{repeating}
 use Rattle.past.specs.Deeds.{Deed, pulses, ticks, commands, resets}
 use Rattle.past.specs.Since.{cameSince}
 use Rattle.past.specs.Settings.{enabledBy, testedBy}
@@ -94,7 +90,7 @@ longRows =
     ∷ []
 
 pub shown-so : map shown (rows ++ longRows) ≡ map (λ (w : Row). w .wanted) (rows ++ longRows)
-unfolding repeaterBy quieted eachPort each portAt putAt changedAt changedTp setTo changed commandOf tickedAt pulsedAt ticked pulsed has
+unfolding repeaterBy repeating
 shown-so = refl
 
 -- a past with many ticks takes too long to ask: what it tells is what is shown (Link: linked)

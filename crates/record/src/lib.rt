@@ -1,14 +1,14 @@
 // Document 01, sections 'Record' and 'Numbers turned away with': any bytes are taken apart into what they ask for, or are
 // turned away with 9, 8, 3, 2, 1 or 7. There is no state. The numbers 5, 6, 4 and 10 are not decided here.
 ghost use mathlib.Core.Path.{_≡_};
-ghost use mathlib.Core.Bool.{cond, not};
-ghost use mathlib.Core.List.{[], _∷_};
-ghost use Prim.Native.Nat.{_+_, _*_, _≤_, _<_};
+ghost use mathlib.Core.Bool.{cond};
+ghost use Prim.Native.Nat.{ℕ, _+_, _*_, _≤_, _<_};
+ghost use lib.Bits.{bitOr};
 ghost use lib.Dec.{ltb};
 ghost use lib.ListN.{length};
 ghost use Rattle.spelling.specs.Spelling.{spelt};
 ghost use Rattle.record.specs.Record.{burstKind, pulseKind, tickKind, cWriteKind, dWriteKind};
-ghost use Rattle.record.specs.Record.{recordLength, kind, mask, written, byteAt, bytesFrom, bit, burstOf, mustBeZero, allZero, stray};
+ghost use Rattle.record.specs.Record.{recordLength, byteAt, bytesFrom, bit, burstOf, stray};
 ghost use Rattle.record.specs.Refusals.{badNumbers, nothingActive, selectsNeither, refused, accepted, recordOf};
 use ports::Quiet;
 
@@ -292,56 +292,47 @@ fn stray_burst(bytes: &[u8]) -> bool
     if Burst::FLAGS_END <= bytes[1] {
         return true;
     }
-    byte(bytes[13]) + byte(bytes[14]) + byte(bytes[15]) + byte(bytes[30]) + byte(bytes[31]) != 0
+    bytes[13] | bytes[14] | bytes[15] | bytes[30] | bytes[31] != 0
 }
 
-// Row 8 for a link pulse.
+// Row 8 for a link pulse: a byte other than its kind and its mask is not zero.
 fn stray_pulse(bytes: &[u8]) -> bool
     requires { ⌜ length (now bytes) ≡ recordLength ⌝ }
     ensures { λ r. ⌜ r ≡ stray pulseKind (now (bytes .entry)) ⌝ }
 {
-    if stray_shared(bytes) {
-        return true;
-    }
-    bytes[13] != 0
+    spelling::four(0, bytes[1], 0, 0) | number32(bytes, 12) | other_words(bytes) != 0
 }
 
-// Row 8 for a C or D write.
+// Row 8 for a C or D write: a byte other than its kind and the written one is not zero.
 fn stray_write(bytes: &[u8]) -> bool
     requires { ⌜ length (now bytes) ≡ recordLength ⌝ }
     ensures { λ r. ⌜ r ≡ stray cWriteKind (now (bytes .entry)) ⌝ }
 {
-    if stray_shared(bytes) {
-        return true;
-    }
-    number16(bytes, 2) != 0
+    let first = spelling::four(0, bytes[1], bytes[2], bytes[3]);
+    let fourth = spelling::four(bytes[12], 0, bytes[14], bytes[15]);
+    first | fourth | other_words(bytes) != 0
 }
 
-// Row 8 for a kind that uses nothing more.
+// Row 8 for a kind that uses nothing more: a byte other than its kind is not zero.
 fn stray_bare(bytes: &[u8]) -> bool
     requires { ⌜ length (now bytes) ≡ recordLength ⌝ }
     ensures { λ r. ⌜ r ≡ stray tickKind (now (bytes .entry)) ⌝ }
 {
-    if stray_write(bytes) {
-        return true;
-    }
-    bytes[13] != 0
+    spelling::four(0, bytes[1], bytes[2], bytes[3]) | number32(bytes, 12) | other_words(bytes) != 0
 }
 
-// Whether one of the bytes that must be zero in every kind but a burst is not: 1, 4 to 12, 14 to 31. A sum of them is zero
-// exactly if each is.
-fn stray_shared(bytes: &[u8]) -> bool
+// The bitwise or of the words of four bytes that must be zero in every kind but a burst: all but the first and the fourth.
+// It is zero exactly if each of them is.
+fn other_words(bytes: &[u8]) -> u32
     requires { ⌜ length (now bytes) ≡ recordLength ⌝ }
-    ensures { λ r. ⌜ r ≡ not (allZero (now (bytes .entry)) (mustBeZero (kind ∷ mask ∷ written ∷ []))) ⌝ }
+    ensures { λ r. ⌜ r ≡ (let word : ℕ → ℕ = λ i. spelt (bytesFrom (now (bytes .entry)) i 3) in bitOr (bitOr (bitOr (bitOr (bitOr (word 4) (word 8)) (word 16)) (word 20)) (word 24)) (word 28)) ⌝ }
 {
-    let front = byte(bytes[1]) + word(bytes, 4) + word(bytes, 8) + byte(bytes[12]);
-    let back = byte(bytes[14])
-        + byte(bytes[15])
-        + word(bytes, 16)
-        + word(bytes, 20)
-        + word(bytes, 24)
-        + word(bytes, 28);
-    front + back != 0
+    number32(bytes, 4)
+        | number32(bytes, 8)
+        | number32(bytes, 16)
+        | number32(bytes, 20)
+        | number32(bytes, 24)
+        | number32(bytes, 28)
 }
 
 // The number that two bytes spell.
@@ -358,14 +349,6 @@ fn number32(bytes: &[u8], i: usize) -> u32
     ensures { λ r. ⌜ r ≡ spelt (bytesFrom (now (bytes .entry)) i 3) ⌝ }
 {
     spelling::four(bytes[i], bytes[i + 1], bytes[i + 2], bytes[i + 3])
-}
-
-// The same, with room for a sum of many.
-fn word(bytes: &[u8], i: usize) -> u64
-    requires { ⌜ i + 4 ≤ length (now bytes) ⌝ }
-    ensures { λ r. ⌜ (r ≡ spelt (bytesFrom (now (bytes .entry)) i 3)) × (r < 4294967296) ⌝ }
-{
-    long(number32(bytes, i))
 }
 
 // One bit of the flags.

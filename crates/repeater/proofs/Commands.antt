@@ -1,27 +1,26 @@
 -- The tables of specs/Commands.antt, by computing; and that a Set does nothing where it is set already. Assumes nothing.
 --   gets-answered, sets-hold == the tables
 --   IsSet, set-already       == what a Set finds where it has been made, and that it then leaves the repeater as it was
-use Prim.Native.Nat.{ℕ, zero, suc}
+use Prim.Native.Nat.{ℕ}
 use mathlib.Core.Path.{_≡_, refl, sym, ap, _∙_}
 use mathlib.Core.Bool.{Bool, true, false, cond}
-use mathlib.Core.List.{List, [], _∷_, map}
+use mathlib.Core.List.{map}
 use lib.Dec.{ltb}
-use lib.ListN.{getD, set}
 use Rattle.ports.specs.Sets.{aui}
 use Rattle.management.specs.declared.Setting.{Setting}
 use Rattle.management.specs.declared.Setting.the-variants.{AlternateAui, AlternateTp, DisableAui, EnableAui, DisableTp, EnableTp, LinkTestOff, LinkTestOn}
 use Rattle.port.specs.declared.Port.{Port}
 use Rattle.port.specs.declared.Change.{Change}
 use Rattle.port.specs.declared.Change.the-variants.{Disabling, EnablingTp, EnablingAui, StoppingTest, StartingTest}
-use Rattle.port.specs.Port.{noPort}
 use Rattle.port.specs.Settings.{changed}
 use Rattle.port.proofs.Sheet as One
 use Rattle.repeater.specs.declared.Repeater.{Repeater}
-use Rattle.repeater.specs.Door.{withPorts, withAlternate, portAt, putAt}
+use Rattle.repeater.specs.Door.{withAlternate, portAt, putAt}
 use Rattle.repeater.specs.Repeater.{changedAt, changedTp, setTo}
 use Rattle.repeater.specs.Sheet.{Row, found}
 use Rattle.repeater.specs.Commands.{Asked, asked, gets, sets}
 use Rattle.repeater.proofs.Computing.{repeating}
+use Rattle.repeater.proofs.DoorLaws.{put-back}
 
 pub gets-answered : map (λ (w : Asked). w .bytes) gets ≡ map asked gets
 unfolding repeating
@@ -31,16 +30,10 @@ pub sets-hold : map (λ (w : Row). w .wanted) sets ≡ map found sets
 unfolding repeating
 sets-hold = refl
 
--- a port put back where it stands
-put-back : (ps : List Port) (i : ℕ) → set ps i (getD ps i noPort) ≡ ps
-put-back [] i = refl
-put-back (p ∷ ps) zero = refl
-put-back (p ∷ ps) (suc i) = ap (_∷_ p) (put-back ps i)
-
 module _ (how : Change) (i : ℕ) (r : Repeater) (h : One.Already how (portAt r i)) where
   at-already : changedAt how i r ≡ r
-  unfolding changedAt putAt portAt
-  at-already = ap (λ (p : Port). putAt i p r) (One.set-already how (portAt r i) h) ∙ ap (withPorts r) (put-back (r .ports) i)
+  unfolding changedAt
+  at-already = ap (λ (p : Port). putAt i p r) (One.set-already how (portAt r i) h) ∙ put-back r i
 
   tp-already : changedTp how i r ≡ r
   unfolding changedTp

@@ -12,6 +12,7 @@ use Rattle.port.specs.Settings.{changed}
 use Rattle.burst.specs.Burst.{heardOf, effectWith, effectOf}
 use Rattle.burst.specs.Clean.{dataTo, cleanAt, reconnectingAt}
 use Rattle.burst.specs.Marks.{marksOf}
+use Rattle.store.specs.Door.{portsFrom, portsOf, maskOf, withPortsIn, placesIn, portIn, putIn, eachIn, alikeIn, metIn}
 use Rattle.repeater.specs.Door.{placesOf, portAt, putAt, eachPort}
 use Rattle.repeater.specs.Hearing.{transmits, listens, hearingOf, meetingOf}
 use Rattle.repeater.specs.Answers.{answerOf}
@@ -31,7 +32,7 @@ unfolding heardOf effectWith effectOf dataTo cleanAt reconnectingAt marksOf
 oneBurst = 0
 
 unfoldable pub ofPorts : ℕ
-unfolding placesOf portAt putAt eachPort transmits listens hearingOf meetingOf alternateFor partitionedAt portAfter among thoseOf
+unfolding portsFrom portsOf maskOf withPortsIn placesIn portIn putIn eachIn alikeIn metIn placesOf portAt putAt eachPort transmits listens hearingOf meetingOf alternateFor partitionedAt portAfter among thoseOf
 ofPorts = 0
 
 unfoldable pub repeating : ℕ

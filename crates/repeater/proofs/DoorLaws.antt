@@ -2,57 +2,56 @@
 -- Whoever speaks of the repeater's ports goes by these. Assumes nothing.
 --   port-past                 == past the last place there is no port
 --   port-each, port-put       == the port at place i after each port, or the one at place k, is put to something
+--   put-back                  == a port put back where it stands changes nothing
 --   each-port-keeps, put-keeps == what that leaves alone of every port, or of the one at place k, is the same at every place
 --   port-status, port-alternate == another status and other algorithms leave every port alone
 --   places-each, places-put, places-status, places-alternate, places-up == how many places there are
 --   up-every, up-keeps        == what holds of a TP port and of AUI at power-up holds at every place
 --   past-among, those-lt, those-has, same-those == the masks of ports
---   those-made                == what the loop over the ports has made at its end
-use Prim.Native.Nat.{ℕ, zero, suc, _≤_, _<_}
+--   transmitting-made, listening-made, linked-made == the masks as the code makes them
+use Prim.Native.Nat.{ℕ, _-_, _≤_, _<_}
 use mathlib.Core.Path.{_≡_, refl, sym, ap, _∙_}
-use mathlib.Core.Bool.{Bool, false, cond, _&&_, and-false}
-use mathlib.Core.List.{List, [], _∷_}
+use mathlib.Core.Bool.{Bool, true, false, cond, not, _&&_, _||_, and-false}
 use native.Mathlib.Omega.{arith}
-use borrow.Author.Tests.{ne-eqb, lt-ltb, le-ltb}
-use lib.Dec.{eqb, ltb, eqb·suc-suc, leb·suc-suc}
-use lib.ListN.{length, getD, set, length-set, replicate, getD-replicate, List·getD-eq-default}
-use Rattle.ports.specs.Sets.{aui, portCount, has, setOf}
-use Rattle.ports.proofs.Sets.{gatherFrom, from-all, gather-more, gather-lt, gather-same, has-gather}
-use Rattle.ports.proofs.Each.{each-length, each-at, each-keeps, set-keeps, set-every}
+use borrow.Author.Tests.{eqb-true, eqb-false, leb-true, leb-false}
+use lib.Dec.{eqb, ltb, leb}
+use lib.Bits.{bitAnd, bitOr, and-le-l}
+use Rattle.ports.specs.Sets.{aui, portCount, has, setOf, without}
+use Rattle.ports.proofs.Sets.{gather-lt, gather-same, is-gather, has-gather, has-and, has-or, has-without}
 use Rattle.port.specs.declared.Port.{Port}
 use Rattle.port.specs.Port.{noPort}
 use Rattle.port.specs.Reset.{tpUp, auiUp}
 use Rattle.management.specs.declared.Status.{Status}
+use Rattle.store.specs.declared.Ports.{Ports}
+use Rattle.store.specs.Door.{portIn}
+use Rattle.store.proofs.Masks.{has-first}
+use Rattle.store.proofs.DoorLaws as store
 use Rattle.repeater.specs.declared.Repeater.{Repeater}
 use Rattle.repeater.specs.declared.Those.{Those}
 use Rattle.repeater.specs.declared.Those.the-variants.{Transmitting, Listening, Partitioned, Linked, Enabled}
-use Rattle.repeater.specs.Door.{withStatus, withAlternate, placesOf, portAt, putAt, eachPort}
+use Rattle.repeater.specs.Door.{withPorts, withStatus, withAlternate, placesOf, portAt, putAt, eachPort}
 use Rattle.repeater.specs.Reset.{powerUp}
 use Rattle.repeater.specs.Hearing.{transmits, listens}
 use Rattle.repeater.specs.Repeater.{among, thoseOf}
 
 -- WHAT STANDS AT A PLACE
 
--- a store in a list, read anywhere
-stored-at : (ps : List Port) (k : ℕ) (p : Port) (i : ℕ) → getD (set ps k p) i noPort ≡ cond (eqb i k && ltb k (length ps)) p (getD ps i noPort)
-stored-at [] k p i = rw (le-ltb k 0 (omega arith), and-false (eqb i k))
-stored-at (q ∷ ps) zero p zero = rw (lt-ltb 0 (length (q ∷ ps)) (omega arith))
-stored-at (q ∷ ps) zero p (suc i) = rw (ne-eqb (suc i) 0 (λ e. omega arith))
-stored-at (q ∷ ps) (suc k) p zero = rw (ne-eqb 0 (suc k) (λ e. omega arith))
-stored-at (q ∷ ps) (suc k) p (suc i) = rw (eqb·suc-suc i k, leb·suc-suc (suc k) (length ps)) (stored-at ps k p i)
-
 module _ (r : Repeater) where
   pub port-past : (i : ℕ) → placesOf r ≤ i → portAt r i ≡ noPort
   unfolding placesOf portAt
-  port-past i h = List·getD-eq-default (r .ports) noPort h
+  port-past i h = store.port-past (r .ports) i h
 
   pub port-each : (f : ℕ → Port → Port) (i : ℕ) → i < placesOf r → portAt (eachPort f r) i ≡ f i (portAt r i)
   unfolding placesOf portAt eachPort
-  port-each f i h = each-at f (r .ports) i noPort noPort h
+  port-each f i h = store.port-each f (r .ports) i h
 
   pub port-put : (k : ℕ) (p : Port) (i : ℕ) → portAt (putAt k p r) i ≡ cond (eqb i k && ltb k (placesOf r)) p (portAt r i)
   unfolding placesOf portAt putAt
-  port-put k p i = stored-at (r .ports) k p i
+  port-put k p i = store.port-put k p (r .ports) i
+
+  pub put-back : (k : ℕ) → putAt k (portAt r k) r ≡ r
+  unfolding portAt putAt
+  put-back k = ap (withPorts r) (store.put-back k (r .ports))
 
   pub port-status : (status : Status) (i : ℕ) → portAt (withStatus r status) i ≡ portAt r i
   unfolding portAt
@@ -65,22 +64,22 @@ module _ (r : Repeater) where
 module _ {B : Type 0} (q : Port → B) (r : Repeater) where
   pub each-port-keeps : (f : ℕ → Port → Port) → ((j : ℕ) (p : Port) → q (f j p) ≡ q p) → (i : ℕ) → q (portAt (eachPort f r) i) ≡ q (portAt r i)
   unfolding portAt eachPort
-  each-port-keeps f h i = each-keeps q f (r .ports) i noPort h
+  each-port-keeps f h i = store.each-keeps q f (r .ports) h i
 
   pub put-keeps : (k : ℕ) (p : Port) → q p ≡ q (portAt r k) → (i : ℕ) → q (portAt (putAt k p r) i) ≡ q (portAt r i)
   unfolding portAt putAt
-  put-keeps k p h i = set-keeps q (r .ports) k i p noPort h
+  put-keeps k p h i = store.put-keeps q (r .ports) k p h i
 
 -- HOW MANY PLACES THERE ARE
 
 module _ (r : Repeater) where
   pub places-each : (f : ℕ → Port → Port) → placesOf (eachPort f r) ≡ placesOf r
   unfolding placesOf eachPort
-  places-each f = each-length f (r .ports)
+  places-each f = store.places-each f (r .ports)
 
   pub places-put : (i : ℕ) (p : Port) → placesOf (putAt i p r) ≡ placesOf r
   unfolding placesOf putAt
-  places-put i p = length-set (r .ports) i p
+  places-put i p = store.places-put i p (r .ports)
 
   pub places-status : (status : Status) → placesOf (withStatus r status) ≡ placesOf r
   unfolding placesOf
@@ -92,24 +91,32 @@ module _ (r : Repeater) where
 
 pub places-up : placesOf powerUp ≡ portCount
 unfolding placesOf
-places-up = refl
+places-up = store.places-alike tpUp auiUp
 
 -- AT POWER-UP
 
-pub up-every : (P : ℕ → Port → Type 0) → ((i : ℕ) → (i ≡ aui → ⊥) → P i tpUp) → P aui auiUp → (i : ℕ) → i < portCount → P i (portAt powerUp i)
+up-at : (i : ℕ) → i < portCount → portAt powerUp i ≡ cond (eqb i aui) auiUp tpUp
 unfolding portAt
-up-every P tp last i l =
-    set-every P (replicate portCount tpUp) aui auiUp noPort last (λ j m n. rw (getD-replicate portCount j tpUp noPort m) (tp j n)) i l
+up-at i l = store.port-alike tpUp auiUp i l
+
+pub up-every : (P : ℕ → Port → Type 0) → ((i : ℕ) → (i ≡ aui → ⊥) → P i tpUp) → P aui auiUp → (i : ℕ) → i < portCount → P i (portAt powerUp i)
+up-every P tp last i l = rw (up-at i l) (go (eqb i aui) refl)
+  where
+    go : (b : Bool) → eqb i aui ≡ b → P i (cond b auiUp tpUp)
+    go true e = rw (eqb-true i aui e) last
+    go false e = tp i (eqb-false i aui e)
 
 module _ {B : Type 0} (q : Port → B) (b : B) (none : q noPort ≡ b) (tp : q tpUp ≡ b) (last : q auiUp ≡ b) where
-  among-tp : (n i : ℕ) → q (getD (replicate n tpUp) i noPort) ≡ b
-  among-tp zero i = none
-  among-tp (suc n) zero = tp
-  among-tp (suc n) (suc i) = among-tp n i
-
   pub up-keeps : (i : ℕ) → q (portAt powerUp i) ≡ b
-  unfolding portAt
-  up-keeps i = set-keeps q (replicate portCount tpUp) aui i auiUp noPort (last ∙ sym (among-tp portCount aui)) ∙ among-tp portCount i
+  up-keeps i = go (leb portCount i) refl
+    where
+      of : (c : Bool) → q (cond c auiUp tpUp) ≡ b
+      of true = last
+      of false = tp
+
+      go : (c : Bool) → leb portCount i ≡ c → q (portAt powerUp i) ≡ b
+      go true e = ap q (port-past powerUp i (rw places-up (leb-true portCount i e))) ∙ none
+      go false e = ap q (up-at i (leb-false portCount i e)) ∙ of (eqb i aui)
 
 -- MASKS OF PORTS
 
@@ -125,14 +132,6 @@ none-among Enabled i = refl
 pub past-among : (those : Those) (r : Repeater) (i : ℕ) → placesOf r ≤ i → among those i (portAt r i) ≡ false
 past-among those r i h = ap (λ (p : Port). among those i p) (port-past r i h) ∙ none-among those i
 
-pub those-made : (those : Those) (ps : List Port) (i m : ℕ) → length ps ≤ 9 → i ≤ 0 → m ≡ gatherFrom 9 i (λ j. among those j (getD ps j noPort))
-    → m ≡ setOf (λ j. among those j (getD ps j noPort))
-those-made those ps zero m l h e =
-    let f : ℕ → Bool = λ j. among those j (getD ps j noPort) in
-    let none : (j : ℕ) → 9 ≤ j → f j ≡ false = λ j k. ap (λ (p : Port). among those j p) (List·getD-eq-default ps noPort (omega arith)) ∙ none-among those j in
-    e ∙ from-all 9 f ∙ gather-more 9 16 f (omega arith) none
-those-made those ps (suc i) m l h e = absurd (omega arith)
-
 module _ (those : Those) (r : Repeater) where
   pub those-lt : thoseOf those r < 65536
   unfolding thoseOf
@@ -146,3 +145,43 @@ module _ (those : Those) (r : Repeater) where
 pub same-those : (those : Those) (r s : Repeater) → ((i : ℕ) → among those i (portAt s i) ≡ among those i (portAt r i)) → thoseOf those s ≡ thoseOf those r
 unfolding thoseOf
 same-those those r s h = gather-same 16 (λ i. among those i (portAt s i)) (λ i. among those i (portAt r i)) (λ i l. h i)
+
+-- THE MASKS AS THE CODE MAKES THEM
+
+module _ (s : Ports) where
+  set-has : (q : Port → Bool) (m i : ℕ) → m ≡ setOf (λ j. q (portIn s j)) → i < 16 → has m i ≡ q (portIn s i)
+  set-has q m i e l = rw e (has-gather 16 (λ j. q (portIn s j)) i l)
+
+  set-low : (q : Port → Bool) (m : ℕ) → m ≡ setOf (λ j. q (portIn s j)) → m < 65536
+  set-low q m e = rw e (gather-lt 16 (λ j. q (portIn s j)))
+
+  or-same : (a b : Bool) → (a || b) ≡ (b || a)
+  or-same true true = refl
+  or-same true false = refl
+  or-same false true = refl
+  or-same false false = refl
+
+  pub transmitting-made : (e p one : ℕ) → e ≡ setOf (λ i. portIn s i .enabled) → p ≡ setOf (λ i. portIn s i .«link_pass») → one ≡ setOf (λ i. eqb i aui)
+      → bitAnd e (bitOr p one) ≡ setOf (λ i. transmits i (portIn s i))
+  unfolding transmits
+  transmitting-made e p one u v o =
+      is-gather 16 (bitAnd e (bitOr p one)) (λ i. transmits i (portIn s i))
+      (omega (arith, and-le-l e (bitOr p one), set-low (λ (q : Port). q .enabled) e u))
+      (λ i l. has-and e (bitOr p one) i
+      ∙ rw (set-has (λ (q : Port). q .enabled) e i u l, has-or p one i, set-has (λ (q : Port). q .«link_pass») p i v l, o, has-gather 16 (λ j. eqb j aui) i l)
+      (ap (λ (b : Bool). portIn s i .enabled && b) (or-same (portIn s i .«link_pass») (eqb i aui))))
+
+  pub listening-made : (t c m : ℕ) → t ≡ setOf (λ i. transmits i (portIn s i)) → c ≡ setOf (λ i. portIn s i .partitioned) → m ≡ without t c
+      → m ≡ setOf (λ i. listens i (portIn s i))
+  unfolding listens
+  listening-made t c m u v e =
+      is-gather 16 m (λ i. listens i (portIn s i))
+      (rw (e, u) (omega (arith, and-le-l (setOf (λ i. transmits i (portIn s i))) (65535 - c), gather-lt 16 (λ i. transmits i (portIn s i)))))
+      (λ i l. ap (λ (k : ℕ). has k i) e ∙ has-without t c i (set-low (λ (q : Port). q .partitioned) c v) l
+      ∙ rw (u, has-gather 16 (λ j. transmits j (portIn s j)) i l, set-has (λ (q : Port). q .partitioned) c i v l))
+
+  pub linked-made : (p : ℕ) → p ≡ setOf (λ i. portIn s i .«link_pass») → bitAnd p 255 ≡ setOf (λ i. ltb i aui && portIn s i .«link_pass»)
+  linked-made p v =
+      is-gather 16 (bitAnd p 255) (λ i. ltb i aui && portIn s i .«link_pass»)
+      (omega (arith, and-le-l p 255, set-low (λ (q : Port). q .«link_pass») p v))
+      (λ i l. has-first 8 p i ∙ ap (λ (b : Bool). ltb i aui && b) (set-has (λ (q : Port). q .«link_pass») p i v l))

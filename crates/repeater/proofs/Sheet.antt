@@ -3,13 +3,14 @@
 --   shortcuts-hold       == the rows against two shortcuts
 --   links-hold           == the rows on links
 --   scenes-follow        == what follows from a burst, case by case; data goes out to partitioned ports as well
+--   orders-kept          == the sets of a burst are those from before it: a link that its own mask brings, and a port that it partitions or connects again
 --   story-told           == the events that inputs of every kind are to a port
 use mathlib.Core.Path.{_≡_, refl}
 use mathlib.Core.List.{List, map}
 use Rattle.port.specs.Standing.{eventOf}
 use Rattle.repeater.specs.Reset.{powerUp}
 use Rattle.repeater.specs.Events.{followedEvent, burstEvent, disables, setEvent, inputEvents}
-use Rattle.repeater.specs.Sheet.{Row, found, Scene, followedBy, sheet, shortcuts, links, scenes, story, told}
+use Rattle.repeater.specs.Sheet.{Row, found, Scene, followedBy, Order, ordered, sheet, shortcuts, links, scenes, orders, story, told}
 use Rattle.repeater.proofs.Computing.{repeating}
 
 -- the wanted of every row
@@ -18,6 +19,13 @@ Holds rows = map found rows ≡ map (λ (w : Row). w .wanted) rows
 
 abbrev pub Followed : List Scene → Type 0
 Followed rows = map followedBy rows ≡ map (λ (w : Scene). w .wanted) rows
+
+abbrev pub Ordered : List Order → Type 0
+Ordered rows = map ordered rows ≡ map (λ (w : Order). w .wanted) rows
+
+pub orders-kept : Ordered orders
+unfolding repeating
+orders-kept = refl
 
 computed : Holds sheet × Holds shortcuts × Holds links × Followed scenes × (inputEvents 0 powerUp story ≡ told)
 unfolding repeating eventOf followedEvent burstEvent disables setEvent

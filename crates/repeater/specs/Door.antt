@@ -1,5 +1,5 @@
 -- How the repeater keeps its ports and its settings: this file alone knows, with its laws in proofs/DoorLaws.antt. Whoever else speaks of a port names
--- it by its place.
+-- it by its place. What is stored of a port is behind it, in the crate store (store/specs/Door).
 --   placesOf r            == how many places there are: nine, in every state that the repeater can come to
 --   portAt r i            == the port at place i; past the last, noPort
 --   putAt i p r           == r with the port p at place i; past the last, as it was
@@ -9,16 +9,13 @@
 -- Assumes nothing.
 use Prim.Native.Nat.{ℕ}
 use mathlib.Core.Bool.{Bool}
-use mathlib.Core.List.{List}
-use lib.ListN.{length, getD, set, replicate}
-use Rattle.ports.specs.Sets.{aui, portCount}
-use Rattle.ports.specs.Each.{each}
 use Rattle.port.specs.declared.Port.{Port}
-use Rattle.port.specs.Port.{noPort}
 use Rattle.management.specs.declared.Status.{Status}
+use Rattle.store.specs.declared.Ports.{Ports}
+use Rattle.store.specs.Door.{placesIn, portIn, putIn, eachIn, alikeIn}
 use Rattle.repeater.specs.declared.Repeater.{Repeater}
 
-abbrev pub withPorts : Repeater → List Port → Repeater
+abbrev pub withPorts : Repeater → Ports → Repeater
 withPorts r ps = record { ports = ps; «alternate_aui» = r .«alternate_aui»; «alternate_tp» = r .«alternate_tp»; status = r .status }
 
 abbrev pub withStatus : Repeater → Status → Repeater
@@ -27,17 +24,17 @@ withStatus r status = record { ports = r .ports; «alternate_aui» = r .«altern
 abbrev pub withAlternate : Repeater → Bool → Bool → Repeater
 withAlternate r forAui forTp = record { ports = r .ports; «alternate_aui» = forAui; «alternate_tp» = forTp; status = r .status }
 
-abbrev pub alike : Port → Port → List Port
-alike tp last = set (replicate portCount tp) aui last
+abbrev pub alike : Port → Port → Ports
+alike tp last = alikeIn tp last
 
 unfoldable pub placesOf : Repeater → ℕ
-placesOf r = length (r .ports)
+placesOf r = placesIn (r .ports)
 
 unfoldable pub portAt : Repeater → ℕ → Port
-portAt r i = getD (r .ports) i noPort
+portAt r i = portIn (r .ports) i
 
 unfoldable pub putAt : ℕ → Port → Repeater → Repeater
-putAt i p r = withPorts r (set (r .ports) i p)
+putAt i p r = withPorts r (putIn i p (r .ports))
 
 unfoldable pub eachPort : (ℕ → Port → Port) → Repeater → Repeater
-eachPort f r = withPorts r (each f (r .ports))
+eachPort f r = withPorts r (eachIn f (r .ports))

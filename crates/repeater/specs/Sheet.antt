@@ -10,6 +10,7 @@
 --   shortcuts     == a partitioned port is sent to, and jam is not clean
 --   links         == the link rules and the Sets at their boundaries
 --   Scene, scenes == a burst after some inputs, and the word, the ports sent to and the ports that collide: every case of 'Burst'
+--   Order, orders == bursts after some inputs: T and H, which are those from before the burst; and after it, the TP ports whose link passes and the partitioned ports
 --   story, told   == inputs of every kind, and the events that they are to TP0
 -- Assumes nothing.
 use Prim.Native.Nat.{ℕ}
@@ -28,7 +29,8 @@ use Rattle.history.specs.History.{Event, collided, clean, neither, cleared, Sta
 use Rattle.repeater.specs.declared.Repeater.{Repeater}
 use Rattle.repeater.specs.Door.{portAt}
 use Rattle.repeater.specs.Reset.{powerUp}
-use Rattle.repeater.specs.Repeater.{burstOf}
+use Rattle.repeater.specs.declared.Bursted.{Bursted}
+use Rattle.repeater.specs.Repeater.{burstOf, partitionedOf, linkedOf}
 use Rattle.repeater.specs.Events.{standingAt, Input, burst, quiet, setting, reset, afterInputs}
 
 abbrev pub pulse : ℕ → Input
@@ -166,6 +168,32 @@ scenes =
     ∷ scene auiParted (activityOf 0b000000100 false true 2000 300) Rep 0b100000011 0b100000000 2 false false
     ∷ scene auiParted (activityOf 0b000000000 false true 2000 300) Nil 0b000000000 0b100000000 nobody false false
     ∷ scene (passing ++ (setting DisableAui ∷ [])) (activityOf 0b000000000 false true 2000 300) Nil 0b000000000 0b000000000 nobody false false
+    ∷ []
+
+pub record Order : Type 0 where
+  pub inputs : List Input
+  pub last : Activity
+  pub wanted : List ℕ
+
+abbrev pub order : List Input → Activity → ℕ → ℕ → ℕ → ℕ → Order
+order inputs last t h linked parts = record { inputs = inputs; last = last; wanted = t ∷ h ∷ linked ∷ parts ∷ [] }
+
+abbrev pub ordered : Order → List ℕ
+ordered w =
+    let b : Bursted = burstOf (afterInputs powerUp (w .inputs)) (w .last) in
+    b .hearing .t ∷ b .hearing .h ∷ linkedOf (b .repeater) ∷ partitionedOf (b .repeater) ∷ []
+
+-- TP3 is active while its link fails: that burst brings the link and does not hear TP3, and the next one does. TP0 and TP1 are heard in the collision that
+-- partitions them. Partitioned and active together they are not heard in the burst that connects them again; TP2 alone connects both; TP1 beside TP2 collides,
+-- and stays partitioned
+abbrev pub orders : List Order
+orders =
+    order passing (activityOf 0b000001000 false false 2000 0) 0b100000111 0b000000000 0b00001111 0b000000000
+    ∷ order (passing ++ (active 0b000001000 2000 0 ∷ [])) (activityOf 0b000001000 false false 2000 0) 0b100001111 0b000001000 0b00001111 0b000000000
+    ∷ order passing (activityOf 0b000000011 false false 2000 1025) 0b100000111 0b000000011 0b00000111 0b000000011
+    ∷ order parted (activityOf 0b000000011 false false 2000 1025) 0b100000111 0b000000000 0b00000111 0b000000000
+    ∷ order parted (activityOf 0b000000100 false false 2000 0) 0b100000111 0b000000100 0b00000111 0b000000000
+    ∷ order parted (activityOf 0b000000110 false false 2000 300) 0b100000111 0b000000100 0b00000111 0b000000010
     ∷ []
 
 -- one input of each kind that matters to a port's history, and what each is to TP0: after the link pulses it collides, is heard alone, is sent jam, is

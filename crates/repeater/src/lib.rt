@@ -1,21 +1,19 @@
 // The repeater chip, an IMR+ (Am79C981): its nine ports with their algorithms, and its status. Here stands what bursts, link pulses, ticks and commands do
 // to it, and what may be asked of it. It knows nothing of the HIMIB, which stands above it on these contracts.
-ghost use Prim.Native.Nat.{_+_, _*_, _%_, _≤_, _<_};
+ghost use Prim.Native.Nat.{_*_, _%_, _≤_};
 ghost use mathlib.Core.Path.{_≡_};
-ghost use mathlib.Core.Bool.{cond};
-ghost use lib.Dec.{eqb};
-ghost use lib.ListN.{getD, set};
+ghost use mathlib.Core.Bool.{cond, _&&_};
+ghost use lib.Dec.{eqb, ltb};
 ghost use Rattle.ports.specs.Sets.{aui, has, setOf};
-ghost use Rattle.ports.specs.Each.{each};
-ghost use Rattle.port.specs.Port.{noPort};
-ghost use Rattle.port.specs.Link.{tickedAt, pulsedAt, revivedAt};
+ghost use Rattle.port.specs.Link.{tickedAt, pulsedAt};
 ghost use Rattle.burst.specs.Clean.{cleanAt};
+ghost use Rattle.store.specs.Door.{portIn, eachIn};
 ghost use Rattle.repeater.specs.Door.{portAt, putAt, eachPort};
 ghost use Rattle.repeater.specs.Reset.{powerUp};
 ghost use Rattle.repeater.specs.Hearing.{transmits, listens, hearingOf};
 ghost use Rattle.repeater.specs.Answers.{bit, auiByte, answerOf};
-ghost use Rattle.repeater.specs.Repeater.{quieted, partitionedAt, portAfter, followed, burstOf, changedAt, changedTp, setTo, gotOf};
-ghost use Rattle.repeater.specs.Repeater.{among, thoseOf, partitionedOf, linkedOf, enabledOf};
+ghost use Rattle.repeater.specs.Repeater.{quieted, portAfter, followed, burstOf, changedAt, changedTp, setTo, gotOf};
+ghost use Rattle.repeater.specs.Repeater.{thoseOf, partitionedOf, linkedOf, enabledOf};
 use burst::Activity;
 use burst::Bus;
 use burst::Effect;
@@ -24,12 +22,13 @@ use management::Query;
 use management::Setting;
 use management::Status;
 use port::Change;
-use port::Meeting;
 use port::Port;
 use ports::Quiet;
+use store::Meetings;
+use store::Ports;
 
 pub struct Repeater {
-    pub ports: [Port; ports::COUNT],
+    pub ports: Ports,
     pub alternate_aui: bool,
     pub alternate_tp: bool,
     pub status: Status,
@@ -58,203 +57,57 @@ pub enum Those {
     Enabled,
 }
 
-// Whether port p at place i is among them.
-fn is_among(those: Those, i: usize, p: Port) -> bool
-    ensures { λ r. ⌜ r ≡ among those i p ⌝ }
-{
-    match those {
-        Those::Transmitting => is_transmitting(i, p),
-        Those::Listening => is_listening(i, p),
-        Those::Partitioned => p.partitioned,
-        Those::Linked => (i < ports::AUI) & p.link_pass,
-        Those::Enabled => p.enabled,
-    }
-}
-
 // T.
-fn is_transmitting(i: usize, p: Port) -> bool
-    ensures { λ r. ⌜ r ≡ transmits i p ⌝ }
+fn transmitting(ports: Ports) -> u16
+    ensures { λ r. ⌜ r ≡ setOf (λ i. transmits i (portIn ports i)) ⌝ }
 {
-    p.enabled & ((i == ports::AUI) | p.link_pass)
+    ports.enabled() & (ports.passing() | ports::only(ports::AUI))
 }
 
 // L.
-fn is_listening(i: usize, p: Port) -> bool
-    ensures { λ r. ⌜ r ≡ listens i p ⌝ }
+fn listening(ports: Ports) -> u16
+    ensures { λ r. ⌜ r ≡ setOf (λ i. listens i (portIn ports i)) ⌝ }
 {
-    is_transmitting(i, p) & !p.partitioned
+    ports::less(transmitting(ports), ports.partitioned())
 }
 
-// A mask with one place more below the others.
-fn push(mask: u16, b: bool) -> u16
-    requires { ⌜ mask < 32768 ⌝ }
-    ensures { λ r. ⌜ r ≡ 2 * mask + cond b 1 0 ⌝ }
+// The TP ports whose link passes.
+fn linked(ports: Ports) -> u16
+    ensures { λ r. ⌜ r ≡ setOf (λ i. ltb i aui && portIn ports i .«link_pass») ⌝ }
 {
-    if b { 2 * mask + 1 } else { 2 * mask }
+    ports.passing() & ports::TP
 }
 
-// The mask of those ports.
-fn mask_of(ports: [Port; ports::COUNT], those: Those) -> u16
-    ensures { λ r. ⌜ r ≡ setOf (λ i. among those i (getD ports i noPort)) ⌝ }
+// Of two sets, by AUI's algorithm and by the TP ports', the place of AUI from the one and all others from the other.
+fn algorithms(for_aui: u16, for_tp: u16) -> u16
+    ensures { λ r. ⌜ r ≡ setOf (λ i. cond (eqb i aui) (has «for_aui» i) (has «for_tp» i)) ⌝ }
 {
-    let mut mask: u16 = 0;
-    let mut i: usize = ports::COUNT;
-    while 0 < i {
-        i = i - 1;
-        let p = ports[i];
-        mask = push(mask, is_among(those, i, p));
-    }
-    mask
+    let aui = ports::only(ports::AUI);
+    (for_aui & aui) | ports::less(for_tp, aui)
 }
 
-// A TP port after a tick; AUI as it was.
-fn tick_at(i: usize, p: Port) -> Port
-    ensures { λ r. ⌜ r ≡ tickedAt i p ⌝ }
-{
-    if i < ports::AUI {
-        return p.tick();
-    }
-    p
-}
-
-fn tick_ports(ports: [Port; ports::COUNT]) -> [Port; ports::COUNT]
-    ensures { λ r. ⌜ r ≡ each tickedAt ports ⌝ }
-{
-    let mut out = ports;
-    for i in 0..ports::COUNT {
-        let p = out[i];
-        out[i] = tick_at(i, p);
-    }
-    out
-}
-
-// A TP port after a link pulse if the mask has it.
-fn pulse_at(mask: u16, i: usize, p: Port) -> Port
-    ensures { λ r. ⌜ r ≡ pulsedAt mask i p ⌝ }
-{
-    if i < ports::AUI {
-        if ports::contains(mask, i) {
-            return p.pulse();
-        }
-        return p;
-    }
-    p
-}
-
-fn pulse_ports(ports: [Port; ports::COUNT], mask: u16) -> [Port; ports::COUNT]
-    ensures { λ r. ⌜ r ≡ each (pulsedAt mask) ports ⌝ }
-{
-    let mut out = ports;
-    for i in 0..ports::COUNT {
-        let p = out[i];
-        out[i] = pulse_at(mask, i, p);
-    }
-    out
-}
-
-// A TP port's link after a burst.
-fn revive_at(mask: u16, i: usize, p: Port) -> Port
-    ensures { λ r. ⌜ r ≡ revivedAt mask i p ⌝ }
-{
-    if i < ports::AUI {
-        if ports::contains(mask, i) {
-            return p.revive();
-        }
-        return p;
-    }
-    p
-}
-
-// What a burst is for port i, from the sets of the ports that collide, that it is clean for, and that it connects again.
-fn meeting(collided: u16, clean: u16, back: u16, x: u32, i: usize) -> Meeting
-    ensures { λ r. ⌜ r ≡ record { collided = has collided i; clean = has clean i; reconnecting = has back i; x = x } ⌝ }
-{
-    Meeting {
-        collided: ports::contains(collided, i),
-        clean: ports::contains(clean, i),
-        reconnecting: ports::contains(back, i),
-        x: x,
-    }
-}
-
-// A port after its partition step, if it is in T.
-fn meet_at(t: u16, meeting: Meeting, i: usize, p: Port) -> Port
-    ensures { λ r. ⌜ r ≡ partitionedAt t meeting i p ⌝ }
-{
-    if ports::contains(t, i) {
-        return p.meet(meeting);
-    }
-    p
-}
-
-// Of two sets, by AUI's algorithm and by the TP ports', the one that port i goes by.
-fn algorithm(for_aui: u16, for_tp: u16, i: usize) -> u16
-    ensures { λ r. ⌜ r ≡ cond (eqb i aui) «for_aui» «for_tp» ⌝ }
-{
-    if i == ports::AUI {
-        return for_aui;
-    }
-    for_tp
-}
-
-// All ports after a burst.
+// All ports after a burst: their partition steps, by sets that were taken before it, and then the links of those that were active.
 fn ports_after(
-    ports: [Port; ports::COUNT],
+    ports: Ports,
     for_aui: bool,
     for_tp: bool,
     hearing: Hearing,
     effect: Effect,
     activity: Activity,
-) -> [Port; ports::COUNT]
-    ensures { λ r. ⌜ r ≡ each (portAfter «for_aui» «for_tp» hearing effect activity (setOf (cleanAt hearing effect))) ports ⌝ }
+) -> Ports
+    ensures { λ r. ⌜ r ≡ eachIn (portAfter «for_aui» «for_tp» hearing effect activity (setOf (cleanAt hearing effect))) ports ⌝ }
 {
     let clean = effect.clean(hearing);
     let back_aui = effect.reconnecting(clean, activity, for_aui);
     let back_tp = effect.reconnecting(clean, activity, for_tp);
-    let mut out = ports;
-    for i in 0..ports::COUNT {
-        let p = out[i];
-        let met = meeting(
-            effect.collided,
-            clean,
-            algorithm(back_aui, back_tp, i),
-            activity.x,
-            i,
-        );
-        let q = meet_at(hearing.t, met, i, p);
-        out[i] = revive_at(activity.mask, i, q);
-    }
-    out
-}
-
-// The port at place i, or one with nothing set past the last.
-fn port_in(ports: [Port; ports::COUNT], i: usize) -> Port
-    ensures { λ r. ⌜ r ≡ getD ports i noPort ⌝ }
-{
-    if i < ports::COUNT {
-        return ports[i];
-    }
-    Port {
-        enabled: false,
-        link_test: false,
-        link_pass: false,
-        idle: 0,
-        pulses: 0,
-        partitioned: false,
-        count: 0,
-    }
-}
-
-// The ports with another at place i, or as they were past the last.
-fn with_port(ports: [Port; ports::COUNT], i: usize, p: Port) -> [Port; ports::COUNT]
-    ensures { λ r. ⌜ r ≡ set ports i p ⌝ }
-{
-    let mut out = ports;
-    if i < ports::COUNT {
-        out[i] = p;
-        return out;
-    }
-    out
+    let met = ports.meet(Meetings {
+        t: hearing.t,
+        collided: effect.collided,
+        clean: clean,
+        back: algorithms(back_aui, back_tp),
+        x: activity.x,
+    });
+    met.revive(activity.mask)
 }
 
 impl Repeater {
@@ -268,8 +121,7 @@ impl Repeater {
         let tp = Port::tp_power_up();
         let aui = Port::aui_power_up();
         let status = Status::power_up();
-        let mut ports = [tp; ports::COUNT];
-        ports[ports::AUI] = aui;
+        let ports = Ports::alike(tp, aui);
         Repeater {
             ports: ports,
             alternate_aui: false,
@@ -283,7 +135,7 @@ impl Repeater {
         ensures { λ r. ⌜ r ≡ portAt self i ⌝ }
     {
         let ports = self.ports;
-        port_in(ports, i)
+        ports.find(i)
     }
 
     // With another port at place i; past the last, as it was.
@@ -291,7 +143,7 @@ impl Repeater {
         ensures { λ r. ⌜ r ≡ putAt i p self ⌝ }
     {
         let ports = self.ports;
-        let next = with_port(ports, i, p);
+        let next = ports.put(i, p);
         self.ports = next;
         self
     }
@@ -301,7 +153,13 @@ impl Repeater {
         ensures { λ r. ⌜ r ≡ thoseOf those self ⌝ }
     {
         let ports = self.ports;
-        mask_of(ports, those)
+        match those {
+            Those::Transmitting => transmitting(ports),
+            Those::Listening => listening(ports),
+            Those::Partitioned => ports.partitioned(),
+            Those::Linked => linked(ports),
+            Those::Enabled => ports.enabled(),
+        }
     }
 
     // After a tick of 1 ms.
@@ -309,7 +167,7 @@ impl Repeater {
         ensures { λ r. ⌜ r ≡ eachPort tickedAt self ⌝ }
     {
         let ports = self.ports;
-        let next = tick_ports(ports);
+        let next = ports.tick();
         self.ports = next;
         self
     }
@@ -319,7 +177,7 @@ impl Repeater {
         ensures { λ r. ⌜ r ≡ eachPort (pulsedAt mask) self ⌝ }
     {
         let ports = self.ports;
-        let next = pulse_ports(ports, mask);
+        let next = ports.pulse(mask);
         self.ports = next;
         self
     }

@@ -1,21 +1,50 @@
 -- `record::stray_write` meets its contract. Assumes nothing.
-use mathlib.Core.Path.{sym, _∙_}
 use borrow.Author.Needs.{needs}
 use Rattle.record.proofs.Strays.{stray-write}
 use Rattle.record.proofs.stray_write.Statement.{statement}
 use Rattle.record.proofs.stray_write.Tie as tie
 
-stray-shared-requires : tie.Need-stray-shared-requires
-stray-shared-requires c κs = search needs
+shared-slice-read-four : tie.Need-shared-slice-read-four
+shared-slice-read-four c = search needs
+
+shared-slice-read-four-2 : tie.Need-shared-slice-read-four-2
+shared-slice-read-four-2 c = search needs
+
+shared-slice-read-four-3 : tie.Need-shared-slice-read-four-3
+shared-slice-read-four-3 c = search needs
+
+four-requires : tie.Need-four-requires
+four-requires c κs = search needs
+
+shared-slice-read-four-4 : tie.Need-shared-slice-read-four-4
+shared-slice-read-four-4 c = search needs
+
+shared-slice-read-four-5 : tie.Need-shared-slice-read-four-5
+shared-slice-read-four-5 c = search needs
+
+shared-slice-read-four-6 : tie.Need-shared-slice-read-four-6
+shared-slice-read-four-6 c = search needs
+
+four-requires-2 : tie.Need-four-requires-2
+four-requires-2 c κs = search needs
+
+other-words-requires : tie.Need-other-words-requires
+other-words-requires c κs = search needs
 
 returns : tie.Need-returns
-returns c = simp (stray-write, sym (c .before .stray-shared .ensures) ∙ c .if1 .taken)
-
-number16-requires : tie.Need-number16-requires
-number16-requires c κs = search needs
-
-returns-2 : tie.Need-returns-2
-returns-2 c = simp (stray-write, sym (c .before .before .stray-shared .ensures) ∙ c .before .if1 .left, c .number16 .ensures)
+returns c = rw (stray-write, c .before .before .before .before .before .four .ensures, c .before .four2 .ensures, c .other-words .ensures)
 
 pub stray-write-spec : {M : Type 1} → statement M
-stray-write-spec = tie.close (tie.spec stray-shared-requires returns number16-requires returns-2)
+stray-write-spec =
+    tie.close
+    (tie.spec
+    shared-slice-read-four
+    shared-slice-read-four-2
+    shared-slice-read-four-3
+    four-requires
+    shared-slice-read-four-4
+    shared-slice-read-four-5
+    shared-slice-read-four-6
+    four-requires-2
+    other-words-requires
+    returns)

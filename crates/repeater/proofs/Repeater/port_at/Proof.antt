@@ -1,14 +1,17 @@
-use borrow.Author.Needs.{needs}
 use Rattle.repeater.specs.Door.{portAt}
+use borrow.Author.Needs.{needs}
 use Rattle.repeater.proofs.Repeater.port_at.Statement.{statement}
 use Rattle.repeater.proofs.Repeater.port_at.Tie as tie
+use Rattle.repeater.proofs.Repeater.port_at.Reads as reads
+use Rattle.repeater.proofs.Repeater.port_at.Lts as lts
+use Rattle.store.proofs.Ports.find.Reads as find-reads
 
-port-in-requires : tie.Need-port-in-requires
-port-in-requires c κs = search needs
+find-requires : tie.Need-find-requires
+find-requires c κs = search needs
 
 returns : tie.Need-returns
 unfolding portAt
-returns c = c .port-in .ensures
+returns c = c .find .ensures
 
 pub port-at-spec : {M : Type 1} → statement M
-port-at-spec = tie.close (tie.spec port-in-requires returns)
+port-at-spec = tie.close (tie.spec find-requires returns)

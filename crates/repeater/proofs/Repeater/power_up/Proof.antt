@@ -1,6 +1,12 @@
 use borrow.Author.Needs.{needs}
 use Rattle.repeater.proofs.Repeater.power_up.Statement.{statement}
 use Rattle.repeater.proofs.Repeater.power_up.Tie as tie
+use Rattle.repeater.proofs.Repeater.power_up.Reads as reads
+use Rattle.repeater.proofs.Repeater.power_up.Lts as lts
+use Rattle.management.proofs.Status.power_up.Reads as power-up-reads
+use Rattle.port.proofs.Port.aui_power_up.Reads as aui-power-up-reads
+use Rattle.port.proofs.Port.tp_power_up.Reads as tp-power-up-reads
+use Rattle.store.proofs.Ports.alike.Reads as alike-reads
 
 tp-power-up-requires : tie.Need-tp-power-up-requires
 tp-power-up-requires c κs = search needs
@@ -11,18 +17,13 @@ aui-power-up-requires c κs = search needs
 power-up-requires : tie.Need-power-up-requires
 power-up-requires c κs = search needs
 
-array-set-from-ports : tie.Need-array-set-from-ports
-array-set-from-ports c = search needs
+alike-requires : tie.Need-alike-requires
+alike-requires c κs = search needs
 
 returns : tie.Need-returns
-returns c = rw (c .before .before .tp-power-up .ensures, c .before .aui-power-up .ensures, c .power-up .ensures)
+returns c = rw (c .alike .ensures, c .before .before .before .tp-power-up .ensures, c .before .before .aui-power-up .ensures, c .before .power-up .ensures)
 
 pub power-up-spec : {M : Type 1} → statement M
 power-up-spec =
     tie.close
-    (tie.spec
-    tp-power-up-requires
-    aui-power-up-requires
-    power-up-requires
-    array-set-from-ports
-    returns)
+    (tie.spec tp-power-up-requires aui-power-up-requires power-up-requires alike-requires returns)

@@ -1,15 +1,18 @@
-use Rattle.repeater.specs.Door.{withPorts, eachPort}
 use mathlib.Core.Path.{ap}
+use Rattle.repeater.specs.Door.{withPorts, eachPort}
 use borrow.Author.Needs.{needs}
 use Rattle.repeater.proofs.Repeater.pulse.Statement.{statement}
 use Rattle.repeater.proofs.Repeater.pulse.Tie as tie
+use Rattle.repeater.proofs.Repeater.pulse.Reads as reads
+use Rattle.repeater.proofs.Repeater.pulse.Lts as lts
+use Rattle.store.proofs.Ports.pulse.Reads as pulse-reads
 
-pulse-ports-requires : tie.Need-pulse-ports-requires
-pulse-ports-requires c κs = search needs
+pulse-requires : tie.Need-pulse-requires
+pulse-requires c κs = search needs
 
 returns : tie.Need-returns
 unfolding eachPort
-returns c = ap (withPorts (c .before .before .args .self)) (c .pulse-ports .ensures)
+returns c = ap (withPorts (c .before .before .args .self)) (c .pulse .ensures)
 
 pub pulse-spec : {M : Type 1} → statement M
-pulse-spec = tie.close (tie.spec pulse-ports-requires returns)
+pulse-spec = tie.close (tie.spec pulse-requires returns)

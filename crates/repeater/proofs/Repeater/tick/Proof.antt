@@ -1,15 +1,18 @@
-use Rattle.repeater.specs.Door.{withPorts, eachPort}
 use mathlib.Core.Path.{ap}
+use Rattle.repeater.specs.Door.{withPorts, eachPort}
 use borrow.Author.Needs.{needs}
 use Rattle.repeater.proofs.Repeater.tick.Statement.{statement}
 use Rattle.repeater.proofs.Repeater.tick.Tie as tie
+use Rattle.repeater.proofs.Repeater.tick.Reads as reads
+use Rattle.repeater.proofs.Repeater.tick.Lts as lts
+use Rattle.store.proofs.Ports.tick.Reads as tick-reads
 
-tick-ports-requires : tie.Need-tick-ports-requires
-tick-ports-requires c κs = search needs
+tick-requires : tie.Need-tick-requires
+tick-requires c κs = search needs
 
 returns : tie.Need-returns
 unfolding eachPort
-returns c = ap (withPorts (c .before .before .args .self)) (c .tick-ports .ensures)
+returns c = ap (withPorts (c .before .before .args .self)) (c .tick .ensures)
 
 pub tick-spec : {M : Type 1} → statement M
-tick-spec = tie.close (tie.spec tick-ports-requires returns)
+tick-spec = tie.close (tie.spec tick-requires returns)

@@ -1,0 +1,16 @@
+use Rattle.repeater.proofs.DoorLaws.{linked-made}
+use borrow.Author.Needs.{needs}
+use Rattle.repeater.proofs.linked.Statement.{statement}
+use Rattle.repeater.proofs.linked.Tie as tie
+use Rattle.repeater.proofs.linked.Reads as reads
+use Rattle.repeater.proofs.linked.Lts as lts
+use Rattle.store.proofs.Ports.passing.Reads as passing-reads
+
+passing-requires : tie.Need-passing-requires
+passing-requires c κs = search needs
+
+returns : tie.Need-returns
+returns c = linked-made (c .before .args .ports) _ (c .passing .ensures)
+
+pub linked-spec : {M : Type 1} → statement M
+linked-spec = tie.close (tie.spec passing-requires returns)

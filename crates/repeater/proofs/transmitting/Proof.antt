@@ -1,0 +1,24 @@
+use Rattle.repeater.proofs.DoorLaws.{transmitting-made}
+use borrow.Author.Needs.{needs}
+use Rattle.repeater.proofs.transmitting.Statement.{statement}
+use Rattle.repeater.proofs.transmitting.Tie as tie
+use Rattle.repeater.proofs.transmitting.Reads as reads
+use Rattle.repeater.proofs.transmitting.Lts as lts
+use Rattle.ports.proofs.only.Reads as only-reads
+use Rattle.store.proofs.Ports.enabled.Reads as enabled-reads
+use Rattle.store.proofs.Ports.passing.Reads as passing-reads
+
+enabled-requires : tie.Need-enabled-requires
+enabled-requires c κs = search needs
+
+passing-requires : tie.Need-passing-requires
+passing-requires c κs = search needs
+
+only-requires : tie.Need-only-requires
+only-requires c κs = search needs
+
+returns : tie.Need-returns
+returns c = transmitting-made (c .before .before .before .args .ports) _ _ _ (c .before .before .enabled .ensures) (c .before .passing .ensures) (c .only .ensures)
+
+pub transmitting-spec : {M : Type 1} → statement M
+transmitting-spec = tie.close (tie.spec enabled-requires passing-requires only-requires returns)
