@@ -355,7 +355,7 @@ def crates(checks):
     below = layers()
     for name in below:
         checks.check((TOP / 'crates' / name / 'src').is_dir(), f'crates.txt: {name} is there')
-    checks.equal(reached(below, 'repeater'), {'ports', 'history', 'management', 'port', 'burst'}, 'crates.txt: the repeater works by itself')
+    checks.equal(reached(below, 'repeater'), {'ports', 'history', 'management', 'port', 'store', 'burst'}, 'crates.txt: the repeater works by itself')
     rows = re.findall(r'^\| `(\w+)` \|', README.read_text().split('\n## Layout\n', 1)[-1], re.MULTILINE)
     same(checks, rows, list(below), 'README.md: the layout has the crates of crates.txt')
     for row in (TOP / 'tests' / 'GATE').read_text().splitlines():

@@ -8,23 +8,17 @@
 --   places-each, places-put, places-status, places-alternate, places-up == how many places there are
 --   up-every, up-keeps        == what holds of a TP port and of AUI at power-up holds at every place
 --   past-among, those-lt, those-has, same-those == the masks of ports
---   transmitting-made, listening-made, linked-made == the masks as the code makes them
-use Prim.Native.Nat.{ℕ, _-_, _≤_, _<_}
-use mathlib.Core.Path.{_≡_, refl, sym, ap, _∙_}
-use mathlib.Core.Bool.{Bool, true, false, cond, not, _&&_, _||_, and-false}
-use native.Mathlib.Omega.{arith}
+use Prim.Native.Nat.{ℕ, _≤_, _<_}
+use mathlib.Core.Path.{_≡_, refl, ap, _∙_}
+use mathlib.Core.Bool.{Bool, true, false, cond, _&&_, and-false}
 use borrow.Author.Tests.{eqb-true, eqb-false, leb-true, leb-false}
 use lib.Dec.{eqb, ltb, leb}
-use lib.Bits.{bitAnd, bitOr, and-le-l}
-use Rattle.ports.specs.Sets.{aui, portCount, has, setOf, without}
-use Rattle.ports.proofs.Sets.{gather-lt, gather-same, is-gather, has-gather, has-and, has-or, has-without}
+use Rattle.ports.specs.Sets.{aui, portCount, has, setOf}
+use Rattle.ports.proofs.Sets.{gather-lt, gather-same, has-gather}
 use Rattle.port.specs.declared.Port.{Port}
 use Rattle.port.specs.Port.{noPort}
 use Rattle.port.specs.Reset.{tpUp, auiUp}
 use Rattle.management.specs.declared.Status.{Status}
-use Rattle.store.specs.declared.Ports.{Ports}
-use Rattle.store.specs.Door.{portIn}
-use Rattle.store.proofs.Masks.{has-first}
 use Rattle.store.proofs.DoorLaws as store
 use Rattle.repeater.specs.declared.Repeater.{Repeater}
 use Rattle.repeater.specs.declared.Those.{Those}
@@ -145,43 +139,3 @@ module _ (those : Those) (r : Repeater) where
 pub same-those : (those : Those) (r s : Repeater) → ((i : ℕ) → among those i (portAt s i) ≡ among those i (portAt r i)) → thoseOf those s ≡ thoseOf those r
 unfolding thoseOf
 same-those those r s h = gather-same 16 (λ i. among those i (portAt s i)) (λ i. among those i (portAt r i)) (λ i l. h i)
-
--- THE MASKS AS THE CODE MAKES THEM
-
-module _ (s : Ports) where
-  set-has : (q : Port → Bool) (m i : ℕ) → m ≡ setOf (λ j. q (portIn s j)) → i < 16 → has m i ≡ q (portIn s i)
-  set-has q m i e l = rw e (has-gather 16 (λ j. q (portIn s j)) i l)
-
-  set-low : (q : Port → Bool) (m : ℕ) → m ≡ setOf (λ j. q (portIn s j)) → m < 65536
-  set-low q m e = rw e (gather-lt 16 (λ j. q (portIn s j)))
-
-  or-same : (a b : Bool) → (a || b) ≡ (b || a)
-  or-same true true = refl
-  or-same true false = refl
-  or-same false true = refl
-  or-same false false = refl
-
-  pub transmitting-made : (e p one : ℕ) → e ≡ setOf (λ i. portIn s i .enabled) → p ≡ setOf (λ i. portIn s i .«link_pass») → one ≡ setOf (λ i. eqb i aui)
-      → bitAnd e (bitOr p one) ≡ setOf (λ i. transmits i (portIn s i))
-  unfolding transmits
-  transmitting-made e p one u v o =
-      is-gather 16 (bitAnd e (bitOr p one)) (λ i. transmits i (portIn s i))
-      (omega (arith, and-le-l e (bitOr p one), set-low (λ (q : Port). q .enabled) e u))
-      (λ i l. has-and e (bitOr p one) i
-      ∙ rw (set-has (λ (q : Port). q .enabled) e i u l, has-or p one i, set-has (λ (q : Port). q .«link_pass») p i v l, o, has-gather 16 (λ j. eqb j aui) i l)
-      (ap (λ (b : Bool). portIn s i .enabled && b) (or-same (portIn s i .«link_pass») (eqb i aui))))
-
-  pub listening-made : (t c m : ℕ) → t ≡ setOf (λ i. transmits i (portIn s i)) → c ≡ setOf (λ i. portIn s i .partitioned) → m ≡ without t c
-      → m ≡ setOf (λ i. listens i (portIn s i))
-  unfolding listens
-  listening-made t c m u v e =
-      is-gather 16 m (λ i. listens i (portIn s i))
-      (rw (e, u) (omega (arith, and-le-l (setOf (λ i. transmits i (portIn s i))) (65535 - c), gather-lt 16 (λ i. transmits i (portIn s i)))))
-      (λ i l. ap (λ (k : ℕ). has k i) e ∙ has-without t c i (set-low (λ (q : Port). q .partitioned) c v) l
-      ∙ rw (u, has-gather 16 (λ j. transmits j (portIn s j)) i l, set-has (λ (q : Port). q .partitioned) c i v l))
-
-  pub linked-made : (p : ℕ) → p ≡ setOf (λ i. portIn s i .«link_pass») → bitAnd p 255 ≡ setOf (λ i. ltb i aui && portIn s i .«link_pass»)
-  linked-made p v =
-      is-gather 16 (bitAnd p 255) (λ i. ltb i aui && portIn s i .«link_pass»)
-      (omega (arith, and-le-l p 255, set-low (λ (q : Port). q .«link_pass») p v))
-      (λ i l. has-first 8 p i ∙ ap (λ (b : Bool). ltb i aui && b) (set-has (λ (q : Port). q .«link_pass») p i v l))

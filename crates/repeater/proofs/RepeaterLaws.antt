@@ -1,20 +1,25 @@
 -- Laws of the whole repeater's definitions, as the code makes them. Assumes nothing.
 use Prim.Native.Nat.{ℕ, _-_, _%_, _<_}
 use mathlib.Core.Path.{_≡_, refl, ap, _∙_}
-use mathlib.Core.Bool.{Bool, not}
+use mathlib.Core.Bool.{Bool, true, false, not, _&&_, _||_}
 use native.Mathlib.Omega.{arith}
 use borrow.Author.Tests.{lt-ltb}
-use lib.Bits.{bitAnd, and-le-l}
-use Rattle.ports.specs.Sets.{aui, gather, setOf}
-use Rattle.ports.proofs.Sets.{gather-lt, has-gather, has-and, has-others, has-mod, is-gather, low-byte}
+use lib.Dec.{eqb, ltb}
+use lib.Bits.{bitAnd, bitOr, and-le-l}
+use Rattle.ports.specs.Sets.{aui, has, gather, setOf, without}
+use Rattle.ports.proofs.Sets.{gather-lt, has-gather, has-and, has-or, has-without, has-others, has-mod, is-gather, low-byte}
+use Rattle.port.specs.declared.Port.{Port}
 use Rattle.burst.specs.declared.Activity.{Activity}
 use Rattle.burst.specs.declared.Heard.{Heard}
 use Rattle.burst.specs.declared.Hearing.{Hearing}
 use Rattle.burst.specs.Burst.{inE, heardOf}
+use Rattle.store.specs.declared.Ports.{Ports}
+use Rattle.store.specs.Door.{portIn}
+use Rattle.store.proofs.Masks.{has-first}
 use Rattle.repeater.specs.declared.Repeater.{Repeater}
 use Rattle.repeater.specs.declared.Those.the-variants.{Transmitting, Listening, Partitioned, Linked}
 use Rattle.repeater.specs.Door.{portAt}
-use Rattle.repeater.specs.Hearing.{inL, inH, hearingOf}
+use Rattle.repeater.specs.Hearing.{transmits, listens, inL, inH, hearingOf}
 use Rattle.repeater.specs.Answers.{connectedAt, passingAt}
 use Rattle.repeater.specs.Repeater.{among, thoseOf, partitionedOf, linkedOf}
 use Rattle.repeater.proofs.DoorLaws.{those-has}
@@ -51,3 +56,43 @@ connected-byte r =
     is-gather 8 (255 - n) (connectedAt r) (omega arith)
     (λ i h. has-others 8 n i (omega arith) h
     ∙ ap (λ (b : Bool). not b) (has-mod 8 (partitionedOf r) i h ∙ those-has Partitioned r i (omega arith) ∙ severed r i))
+
+-- the sets of ports, from the masks that are kept
+
+module _ (s : Ports) where
+  set-has : (q : Port → Bool) (m i : ℕ) → m ≡ setOf (λ j. q (portIn s j)) → i < 16 → has m i ≡ q (portIn s i)
+  set-has q m i e l = rw e (has-gather 16 (λ j. q (portIn s j)) i l)
+
+  set-low : (q : Port → Bool) (m : ℕ) → m ≡ setOf (λ j. q (portIn s j)) → m < 65536
+  set-low q m e = rw e (gather-lt 16 (λ j. q (portIn s j)))
+
+  or-same : (a b : Bool) → (a || b) ≡ (b || a)
+  or-same true true = refl
+  or-same true false = refl
+  or-same false true = refl
+  or-same false false = refl
+
+  pub transmitting-made : (e p one : ℕ) → e ≡ setOf (λ i. portIn s i .enabled) → p ≡ setOf (λ i. portIn s i .«link_pass») → one ≡ setOf (λ i. eqb i aui)
+      → bitAnd e (bitOr p one) ≡ setOf (λ i. transmits i (portIn s i))
+  unfolding transmits
+  transmitting-made e p one u v o =
+      is-gather 16 (bitAnd e (bitOr p one)) (λ i. transmits i (portIn s i))
+      (omega (arith, and-le-l e (bitOr p one), set-low (λ (q : Port). q .enabled) e u))
+      (λ i l. has-and e (bitOr p one) i
+      ∙ rw (set-has (λ (q : Port). q .enabled) e i u l, has-or p one i, set-has (λ (q : Port). q .«link_pass») p i v l, o, has-gather 16 (λ j. eqb j aui) i l)
+      (ap (λ (b : Bool). portIn s i .enabled && b) (or-same (portIn s i .«link_pass») (eqb i aui))))
+
+  pub listening-made : (t c m : ℕ) → t ≡ setOf (λ i. transmits i (portIn s i)) → c ≡ setOf (λ i. portIn s i .partitioned) → m ≡ without t c
+      → m ≡ setOf (λ i. listens i (portIn s i))
+  unfolding listens
+  listening-made t c m u v e =
+      is-gather 16 m (λ i. listens i (portIn s i))
+      (rw (e, u) (omega (arith, and-le-l (setOf (λ i. transmits i (portIn s i))) (65535 - c), gather-lt 16 (λ i. transmits i (portIn s i)))))
+      (λ i l. ap (λ (k : ℕ). has k i) e ∙ has-without t c i (set-low (λ (q : Port). q .partitioned) c v) l
+      ∙ rw (u, has-gather 16 (λ j. transmits j (portIn s j)) i l, set-has (λ (q : Port). q .partitioned) c i v l))
+
+  pub linked-made : (p : ℕ) → p ≡ setOf (λ i. portIn s i .«link_pass») → bitAnd p 255 ≡ setOf (λ i. ltb i aui && portIn s i .«link_pass»)
+  linked-made p v =
+      is-gather 16 (bitAnd p 255) (λ i. ltb i aui && portIn s i .«link_pass»)
+      (omega (arith, and-le-l p 255, set-low (λ (q : Port). q .«link_pass») p v))
+      (λ i l. has-first 8 p i ∙ ap (λ (b : Bool). ltb i aui && b) (set-has (λ (q : Port). q .«link_pass») p i v l))

@@ -30,6 +30,7 @@ use Rattle.port.specs.Port.{noPort}
 use Rattle.store.specs.declared.Row.{Row}
 use Rattle.store.specs.declared.Ports.{Ports}
 use Rattle.store.specs.Door.{noRow, rowOf, portOf, portsFrom, portsOf, maskOf, withPortsIn, placesIn, portIn, putIn, eachIn, nobodyIn, alikeIn}
+use Rattle.store.proofs.Sheet.{puts-found}
 use Rattle.store.proofs.Masks.{same-mask, bit-lt, bit-value}
 
 -- PORTS AND WHAT IS KEPT OF THEM

@@ -33,6 +33,7 @@ use Rattle.store.specs.Visits.{onSet, isFull, visited}
 use Rattle.store.proofs.Masks.{has-first, has-less, has-set, has-with, has-without-one}
 use Rattle.store.proofs.Visiting.{or-true, or-false, holding, visited-at}
 use Rattle.store.proofs.RowLaws.{one-less}
+use Rattle.store.proofs.Sheet.{moves-made}
 use Rattle.store.proofs.DoorLaws.{standing, split, places-rows, port-within, port-past, is-put, put-past, is-each}
 
 -- A VISIT

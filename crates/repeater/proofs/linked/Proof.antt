@@ -1,4 +1,4 @@
-use Rattle.repeater.proofs.DoorLaws.{linked-made}
+use Rattle.repeater.proofs.RepeaterLaws.{linked-made}
 use borrow.Author.Needs.{needs}
 use Rattle.repeater.proofs.linked.Statement.{statement}
 use Rattle.repeater.proofs.linked.Tie as tie

@@ -1,4 +1,4 @@
-use Rattle.repeater.proofs.DoorLaws.{listening-made}
+use Rattle.repeater.proofs.RepeaterLaws.{listening-made}
 use borrow.Author.Needs.{needs}
 use Rattle.repeater.proofs.listening.Statement.{statement}
 use Rattle.repeater.proofs.listening.Tie as tie

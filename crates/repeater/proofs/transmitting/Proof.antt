@@ -1,4 +1,4 @@
-use Rattle.repeater.proofs.DoorLaws.{transmitting-made}
+use Rattle.repeater.proofs.RepeaterLaws.{transmitting-made}
 use borrow.Author.Needs.{needs}
 use Rattle.repeater.proofs.transmitting.Statement.{statement}
 use Rattle.repeater.proofs.transmitting.Tie as tie
