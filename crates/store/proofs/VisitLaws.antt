@@ -270,10 +270,10 @@ module _ (s : Ports) (low : s .passing < 65536) (nine : length (s .rows) ≡ 9) 
 
 -- BURSTS
 
--- a collision partitions at a count of 31, and a long one at any
-full-long : (n : ℕ) (g : Bool) → leb (cond g 0 31) n ≡ (leb partitionsAt (n + 1) || g)
+-- a collision partitions at the last count before the limit, and a long one at any
+full-long : (n : ℕ) (g : Bool) → leb (cond g 0 (partitionsAt - 1)) n ≡ (leb partitionsAt (n + 1) || g)
 full-long n true = le-leb 0 n (omega arith) ∙ sym (or-true (leb partitionsAt (n + 1)))
-full-long n false = one-less 31 n ∙ sym (or-false (leb partitionsAt (n + 1)))
+full-long n false = one-less (partitionsAt - 1) n ∙ sym (or-false (leb partitionsAt (n + 1)))
 
 -- n is whether there is such a place, h whether it is in T; k, l and w whether the burst collides there, is clean, reconnects; f whether a collision partitions
 module _ (e t p : Bool) (r : Row) (k l w : Bool) (x last : ℕ) where
@@ -370,7 +370,7 @@ module _ (s : Ports) (b : Meetings) where
           ∙ ap (λ (a : Bool). a && not (has (b .collided) i)) (has-and connected (b .clean) i)
           ∙ ap (λ (a : Bool). (a && has (b .clean) i) && not (has (b .collided) i)) (connected-at i)
 
-      pub meet-made : (last : ℕ) (counts next : List Row) (full none partitioned : ℕ) → last ≡ cond (ltb longAbove (b .x)) 0 31
+      pub meet-made : (last : ℕ) (counts next : List Row) (full none partitioned : ℕ) → last ≡ cond (ltb longAbove (b .x)) 0 (partitionsAt - 1)
           → Went (bitAnd connected (b .collided)) (Collide last) (s .rows) counts full → Went (bitOr others reconnected) Calm counts next none
           → partitioned ≡ without (bitOr (s .partitioned) full) reconnected
           → _≡_ {A = Ports} (record { enabled = s .enabled; tested = s .tested; passing = s .passing; partitioned = partitioned; rows = next }) (eachIn (metIn b) s)

@@ -1,6 +1,7 @@
 -- What a visit does to the row of a place, and for which rows the port's set changes with it. Each visit is a rule of document 01 ('Link (TP)',
 -- 'Partition') as far as it is about numbers; proofs/VisitLaws.antt ties it to the port's own rule, in the crate port.
 --   onSet m f i x       == f x if the mask m has place i, x if not
+--   withLinkRow r idle pulses, withCountRow r n == r with other numbers for its link, or another count
 --   isFull visit row    == the visit finds the row full: the link fails by this tick, passes by this pulse, the port is partitioned by this collision
 --   visited visit row   == the row after the visit
 -- Assumes nothing.

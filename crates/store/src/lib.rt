@@ -1,14 +1,14 @@
 // How the nine ports are kept: sets of ports as masks, and for each place a row of the three numbers that a port counts. Only this crate knows it. What
 // is done to many ports goes through the places of a mask, the lowest first, one row at a time.
-ghost use Prim.Native.Nat.{_+_, _<_};
+ghost use Prim.Native.Nat.{_-_, _^_, _<_};
 ghost use mathlib.Core.Path.{_≡_};
-ghost use mathlib.Core.Bool.{Bool, true, false, _&&_, cond};
+ghost use mathlib.Core.Bool.{true, false, cond, _&&_};
 ghost use lib.Dec.{eqb, ltb};
 ghost use lib.Bits.{bitOr};
 ghost use lib.Count.{trailingZeros};
 ghost use lib.ListN.{length, getD, set};
 ghost use Rattle.history.specs.History.{partitionsAt, longAbove};
-ghost use Rattle.ports.specs.Sets.{has, setOf, without};
+ghost use Rattle.ports.specs.Sets.{portCount, has, setOf, without};
 ghost use Rattle.ports.specs.Each.{each};
 ghost use Rattle.port.specs.Link.{tickedAt, pulsedAt, revivedAt};
 ghost use Rattle.store.specs.Door.{noRow, portIn, putIn, eachIn, alikeIn, metIn};
@@ -57,11 +57,6 @@ pub struct Visited {
     pub rows: [Row; ports::COUNT],
     pub full: u16,
 }
-
-// The places of all ports, and of the TP ports.
-const ALL: u16 = 511;
-
-const TP: u16 = 255;
 
 fn place(i: u32) -> usize
     ensures { λ r. ⌜ r ≡ i ⌝ }
@@ -159,8 +154,8 @@ fn filled(visit: Visit, mut row: Row) -> Row
 
 // A visit to the places of a mask, the lowest first.
 fn visit_all(rows: [Row; ports::COUNT], mask: u16, visit: Visit) -> Visited
-    requires { ⌜ mask < 512 ⌝ }
-    ensures { λ r. ⌜ (r .rows ≡ each (onSet mask (visited visit)) rows) × (length rows ≡ 9) × (r .full ≡ setOf (λ i. has mask i && isFull visit (getD rows i noRow))) ⌝ }
+    requires { ⌜ mask < 2 ^ portCount ⌝ }
+    ensures { λ r. ⌜ (r .rows ≡ each (onSet mask (visited visit)) rows) × (length rows ≡ portCount) × (r .full ≡ setOf (λ i. has mask i && isFull visit (getD rows i noRow))) ⌝ }
 {
     let mut out = rows;
     let mut full: u16 = 0;
@@ -185,7 +180,7 @@ fn visit_all(rows: [Row; ports::COUNT], mask: u16, visit: Visit) -> Visited
 
 // The count at which a collision of x bit times partitions: any, if it is long.
 fn last_before(x: u32) -> u8
-    ensures { λ r. ⌜ r ≡ cond (ltb longAbove x) 0 31 ⌝ }
+    ensures { λ r. ⌜ r ≡ cond (ltb longAbove x) 0 (partitionsAt - 1) ⌝ }
 {
     if Port::LONG_ABOVE < x {
         return 0;
@@ -205,14 +200,14 @@ fn with_bit(mask: u16, i: usize, b: bool) -> u16
 
 // Whether there is a row for place i.
 fn is_place(rows: [Row; ports::COUNT], i: usize) -> bool
-    ensures { λ r. ⌜ (r ≡ ltb i (length rows)) × (length rows ≡ 9) ⌝ }
+    ensures { λ r. ⌜ (r ≡ ltb i (length rows)) × (length rows ≡ portCount) ⌝ }
 {
     i < ports::COUNT
 }
 
 // The row of place i.
 fn row_at(rows: [Row; ports::COUNT], i: usize) -> Row
-    requires { ⌜ i < 9 ⌝ }
+    requires { ⌜ i < portCount ⌝ }
     ensures { λ r. ⌜ r ≡ getD rows i noRow ⌝ }
 {
     rows[i]
@@ -220,7 +215,7 @@ fn row_at(rows: [Row; ports::COUNT], i: usize) -> Row
 
 // The rows with another at place i.
 fn with_row(rows: [Row; ports::COUNT], i: usize, row: Row) -> [Row; ports::COUNT]
-    requires { ⌜ i < 9 ⌝ }
+    requires { ⌜ i < portCount ⌝ }
     ensures { λ r. ⌜ r ≡ set rows i row ⌝ }
 {
     let mut out = rows;
