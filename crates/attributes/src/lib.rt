@@ -307,9 +307,12 @@ impl Nine {
         ensures { λ r. ⌜ r ≡ counterOf self i register ⌝ }
     {
         let nine = self.ports;
-        let port = port_at(nine, i);
-        let counters = port.counters;
-        number_at(counters, register)
+        if i < ports::COUNT {
+            let port = nine[i];
+            let counters = port.counters;
+            return number_at(counters, register);
+        }
+        0
     }
 
     // Port i's last source address, or zeros past the last port.

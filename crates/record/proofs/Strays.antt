@@ -1,4 +1,4 @@
--- The bytes that must be zero, as the code asks for them: by a bitwise or, of the bytes of a burst, of the words of the others.
+-- The bytes that must be zero, as the code asks for them: by a bitwise or of a burst's bytes, and of the words of the others.
 --     or-zero                               a bitwise or is zero exactly if both numbers are
 --     stray-burst, -pulse, -write, -bare    row 8's condition for a burst, a pulse, a C write and a tick
 -- Assumes nothing.
@@ -55,8 +55,10 @@ or-five a b c d e = simp (or-zero, both-zero)
 abbrev orOfSix : ℕ → ℕ → ℕ → ℕ → ℕ → ℕ → ℕ
 orOfSix a b c d e f = bitOr (bitOr (bitOr (bitOr (bitOr a b) c) d) e) f
 
-or-total : (p q a b c d e f : ℕ) → eqb (bitOr (bitOr p q) (orOfSix a b c d e f)) 0 ≡ eqb (p + q + (a + b + c + d + e + f)) 0
-or-total p q a b c d e f = simp (or-zero, both-zero)
+or-total : (p q a b c d e f : ℕ) → eqb (p + q + orOfSix a b c d e f) 0 ≡ eqb (p + q + (a + b + c + d + e + f)) 0
+or-total p q a b c d e f =
+    let six : eqb (orOfSix a b c d e f) 0 ≡ eqb (a + b + c + d + e + f) 0 = simp (or-zero, both-zero) in
+    sym (both-zero (p + q) (orOfSix a b c d e f)) ∙ ap (λ (t : Bool). eqb (p + q) 0 && t) six ∙ both-zero (p + q) (a + b + c + d + e + f)
 
 -- the word of four bytes at place i
 abbrev wordAt : List ℕ → ℕ → ℕ
@@ -64,7 +66,7 @@ wordAt s i = spelt (bytesFrom s i 3)
 
 -- the first word and the fourth, p and q, with the six others that are zero in every kind but a burst
 abbrev words : List ℕ → ℕ → ℕ → ℕ
-words s p q = bitOr (bitOr p q) (orOfSix (wordAt s 4) (wordAt s 8) (wordAt s 16) (wordAt s 20) (wordAt s 24) (wordAt s 28))
+words s p q = p + q + orOfSix (wordAt s 4) (wordAt s 8) (wordAt s 16) (wordAt s 20) (wordAt s 24) (wordAt s 28)
 
 abbrev wordSum : List ℕ → ℕ → ℕ → ℕ
 wordSum s p q = p + q + (wordAt s 4 + wordAt s 8 + wordAt s 16 + wordAt s 20 + wordAt s 24 + wordAt s 28)

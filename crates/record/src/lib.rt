@@ -300,7 +300,9 @@ fn stray_pulse(bytes: &[u8]) -> bool
     requires { ⌜ length (now bytes) ≡ recordLength ⌝ }
     ensures { λ r. ⌜ r ≡ stray pulseKind (now (bytes .entry)) ⌝ }
 {
-    spelling::four(0, bytes[1], 0, 0) | number32(bytes, 12) | other_words(bytes) != 0
+    let first = spelling::four(0, bytes[1], 0, 0);
+    let fourth = number32(bytes, 12);
+    long(first) + long(fourth) + long(other_words(bytes)) != 0
 }
 
 // Row 8 for a C or D write: a byte other than its kind and the written one is not zero.
@@ -310,7 +312,7 @@ fn stray_write(bytes: &[u8]) -> bool
 {
     let first = spelling::four(0, bytes[1], bytes[2], bytes[3]);
     let fourth = spelling::four(bytes[12], 0, bytes[14], bytes[15]);
-    first | fourth | other_words(bytes) != 0
+    long(first) + long(fourth) + long(other_words(bytes)) != 0
 }
 
 // Row 8 for a kind that uses nothing more: a byte other than its kind is not zero.
@@ -318,7 +320,9 @@ fn stray_bare(bytes: &[u8]) -> bool
     requires { ⌜ length (now bytes) ≡ recordLength ⌝ }
     ensures { λ r. ⌜ r ≡ stray tickKind (now (bytes .entry)) ⌝ }
 {
-    spelling::four(0, bytes[1], bytes[2], bytes[3]) | number32(bytes, 12) | other_words(bytes) != 0
+    let head = spelling::four(0, bytes[1], bytes[2], bytes[3]);
+    let fourth = number32(bytes, 12);
+    long(head) + long(fourth) + long(other_words(bytes)) != 0
 }
 
 // The bitwise or of the words of four bytes that must be zero in every kind but a burst: all but the first and the fourth.

@@ -1,8 +1,13 @@
 -- `record::stray_write` meets its contract. Assumes nothing.
-use borrow.Author.Needs.{needs}
 use Rattle.record.proofs.Strays.{stray-write}
+use borrow.Author.Needs.{needs}
 use Rattle.record.proofs.stray_write.Statement.{statement}
 use Rattle.record.proofs.stray_write.Tie as tie
+use Rattle.record.proofs.stray_write.Reads as reads
+use Rattle.record.proofs.stray_write.Lts as lts
+use Rattle.record.proofs.long.Reads as long-reads
+use Rattle.record.proofs.other_words.Reads as other-words-reads
+use Rattle.spelling.proofs.four.Reads as four-reads
 
 shared-slice-read-four : tie.Need-shared-slice-read-four
 shared-slice-read-four c = search needs
@@ -28,11 +33,28 @@ shared-slice-read-four-6 c = search needs
 four-requires-2 : tie.Need-four-requires-2
 four-requires-2 c κs = search needs
 
+long-requires : tie.Need-long-requires
+long-requires c κs = search needs
+
+long-requires-2 : tie.Need-long-requires-2
+long-requires-2 c κs = search needs
+
+add-result : tie.Need-add-result
+add-result c = search needs
+
 other-words-requires : tie.Need-other-words-requires
 other-words-requires c κs = search needs
 
+long-requires-3 : tie.Need-long-requires-3
+long-requires-3 c κs = search needs
+
+add-result-2 : tie.Need-add-result-2
+add-result-2 c = search needs
+
 returns : tie.Need-returns
-returns c = rw (stray-write, c .before .before .before .before .before .four .ensures, c .before .four2 .ensures, c .other-words .ensures)
+returns c =
+    let l = c .before .before in
+    rw (stray-write, c .long3 .ensures .0, l .long2 .ensures .0, l .before .long .ensures .0, c .before .before .before .before .before .before .before .before .four .ensures, c .before .before .before .before .four2 .ensures, c .before .other-words .ensures)
 
 pub stray-write-spec : {M : Type 1} → statement M
 stray-write-spec =
@@ -46,5 +68,10 @@ stray-write-spec =
     shared-slice-read-four-5
     shared-slice-read-four-6
     four-requires-2
+    long-requires
+    long-requires-2
+    add-result
     other-words-requires
+    long-requires-3
+    add-result-2
     returns)
