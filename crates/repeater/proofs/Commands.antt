@@ -12,7 +12,6 @@ use Rattle.management.specs.declared.Setting.the-variants.{AlternateAui, Altern
 use Rattle.port.specs.declared.Port.{Port}
 use Rattle.port.specs.declared.Change.{Change}
 use Rattle.port.specs.declared.Change.the-variants.{Disabling, EnablingTp, EnablingAui, StoppingTest, StartingTest}
-use Rattle.port.specs.Settings.{changed}
 use Rattle.port.proofs.Sheet as One
 use Rattle.repeater.specs.declared.Repeater.{Repeater}
 use Rattle.repeater.specs.Door.{withAlternate, portAt, putAt}

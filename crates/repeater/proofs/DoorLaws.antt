@@ -13,7 +13,7 @@ use mathlib.Core.Path.{_≡_, refl, ap, _∙_}
 use mathlib.Core.Bool.{Bool, true, false, cond, _&&_, and-false}
 use borrow.Author.Tests.{eqb-true, eqb-false, leb-true, leb-false}
 use lib.Dec.{eqb, ltb, leb}
-use Rattle.ports.specs.Sets.{aui, portCount, has, setOf}
+use Rattle.ports.specs.Sets.{aui, portCount, has}
 use Rattle.ports.proofs.Sets.{gather-lt, gather-same, has-gather}
 use Rattle.port.specs.declared.Port.{Port}
 use Rattle.port.specs.Port.{noPort}

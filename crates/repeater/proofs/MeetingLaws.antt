@@ -2,7 +2,7 @@
 --   algorithms-made == the set that goes by AUI's algorithm at AUI's place and by the TP ports' at all others
 --   after-made      == the partition steps, by sets that were taken before them, and then the links: all ports after a burst
 use Prim.Native.Nat.{ℕ, _-_, _≤_, _<_}
-use mathlib.Core.Path.{_≡_, refl, sym, ap, _∙_}
+use mathlib.Core.Path.{_≡_, refl, sym, _∙_}
 use mathlib.Core.Bool.{Bool, true, false, cond, not, _&&_, _||_}
 use native.Mathlib.Omega.{arith}
 use borrow.Author.Tests.{leb-true, leb-false}

@@ -17,9 +17,9 @@ use mathlib.Core.Path.{_≡_, refl, ap, sym, _∙_}
 use mathlib.Core.Bool.{Bool, true, false, cond, _&&_, and-false}
 use mathlib.Core.List.{List, [], _∷_, map}
 use native.Mathlib.Omega.{arith}
-use borrow.Author.Tests.{ne-eqb, eqb-true, eqb-false, ltb-true, ltb-false, lt-ltb, le-ltb}
-use lib.Dec.{eqb, ltb, lit<, eqb·suc-suc, leb·suc-suc}
-use lib.ListN.{length, getD, set, length-set, replicate, length-replicate, getD-replicate, List·getD-eq-default}
+use borrow.Author.Tests.{ne-eqb, eqb-true, ltb-true, ltb-false, lt-ltb, le-ltb}
+use lib.Dec.{eqb, ltb, eqb·suc-suc, leb·suc-suc}
+use lib.ListN.{length, getD, set, length-set, replicate, getD-replicate, List·getD-eq-default}
 use lib.Seq.{ext-getD, set-getD, set-out}
 use Rattle.ports.specs.Sets.{aui, portCount, has}
 use Rattle.ports.specs.Each.{each, done}

@@ -3,7 +3,7 @@
 --   emptied-tick, -pulse, -collide, never   == the row after a visit that finds it full; some visits never do
 --   filled-tick, -hush, -pulse, -revive, -collide, -calm == the row after a visit that does not
 --   room-tick, room-pulse, room-collide     == there is room for one more
-use Prim.Native.Nat.{ℕ, _+_, _-_, _≤_, _<_}
+use Prim.Native.Nat.{ℕ, _+_, _-_, _<_}
 use mathlib.Core.Path.{_≡_, refl, ap, sym, _∙_}
 use mathlib.Core.Bool.{Bool, true, false, true≢false}
 use native.Mathlib.Omega.{arith}

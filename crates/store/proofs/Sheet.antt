@@ -7,9 +7,8 @@ use Rattle.ports.specs.Sets.{has}
 use Rattle.ports.specs.Each.{each}
 use Rattle.port.specs.Link.{ticked, pulsed, revived, tickedAt, pulsedAt, revivedAt}
 use Rattle.port.specs.Partition.{partitioning, afterMeeting}
-use Rattle.store.specs.declared.Ports.{Ports}
 use Rattle.store.specs.Door.{portsFrom, portsOf, maskOf, withPortsIn, portIn, putIn, eachIn, metIn}
-use Rattle.store.specs.Sheet.{Put, wanted, taken, given, puts, gives, Move, done, moves}
+use Rattle.store.specs.Sheet.{wanted, taken, given, puts, gives, Move, done, moves}
 
 pub puts-found : map taken puts ≡ map wanted puts
 unfolding portsFrom portsOf maskOf withPortsIn portIn putIn

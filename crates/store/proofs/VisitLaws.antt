@@ -3,18 +3,18 @@
 --   set-in                  == the set of a mask's ports
 --   found-made, none-made, put-made, put-none == a port that is found, and one that is put, as the code makes it
 --   tick-made, pulse-made, revive-made, meet-made == the ports after a tick, link pulses, activity, a burst
-use Prim.Native.Nat.{ℕ, _+_, _-_, _^_, _≤_, _<_}
+use Prim.Native.Nat.{ℕ, _+_, _-_, _<_}
 use mathlib.Core.Path.{_≡_, refl, ap, sym, _∙_}
-use mathlib.Core.Bool.{Bool, true, false, cond, not, _&&_, _||_, and-false}
+use mathlib.Core.Bool.{Bool, true, false, cond, not, _&&_, _||_}
 use mathlib.Core.List.{List}
 use native.Mathlib.Omega.{arith}
-use borrow.Author.Tests.{eqb-true, eqb-false, ltb-true, ltb-false, lt-ltb, le-ltb, le-leb}
+use borrow.Author.Tests.{eqb-true, eqb-false, ltb-true, ltb-false, lt-ltb, le-leb}
 use lib.Dec.{eqb, ltb, leb}
 use lib.Bits.{bitAnd, bitOr, and-le-l, and-le-r, or-lt}
 use lib.ListN.{length, getD, set, length-set}
 use lib.Seq.{getD-set-same, getD-set-other}
 use Rattle.history.specs.History.{partitionsAt, longAbove}
-use Rattle.ports.specs.Sets.{aui, has, setOf, without}
+use Rattle.ports.specs.Sets.{has, setOf, without}
 use Rattle.ports.specs.Each.{each}
 use Rattle.ports.proofs.Sets.{has-and, has-or, has-past, gather-lt, gather-same, is-gather}
 use Rattle.ports.proofs.Each.{each-length}
@@ -30,10 +30,10 @@ use Rattle.store.specs.declared.Visit.{Visit}
 use Rattle.store.specs.declared.Visit.the-variants.{Tick, Hush, Pulse, Revive, Collide, Calm}
 use Rattle.store.specs.Door.{noRow, rowOf, portOf, portIn, putIn, eachIn, metIn}
 use Rattle.store.specs.Visits.{onSet, isFull, visited}
+use Rattle.store.proofs.Sheet.{moves-made}
 use Rattle.store.proofs.Masks.{has-first, has-less, has-set, has-with, has-without-one}
 use Rattle.store.proofs.Visiting.{or-true, or-false, holding, visited-at}
 use Rattle.store.proofs.RowLaws.{one-less}
-use Rattle.store.proofs.Sheet.{moves-made}
 use Rattle.store.proofs.DoorLaws.{standing, split, places-rows, port-within, port-past, is-put, put-past, is-each}
 
 -- A VISIT

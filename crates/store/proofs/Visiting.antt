@@ -3,7 +3,7 @@
 --   visit-none, visit-turn  == what is left to do: nothing where no place is left; what a turn does is what its place's leaving takes away
 --   Found, found-none, found-in, found-out, found-all == likewise, for the set of those places at which a test holds
 --   visited-at              == what stands at a place when all is done
-use Prim.Native.Nat.{ℕ, zero, suc, _+_, _-_, _*_, _/_, _%_, _^_, _≤_, _<_}
+use Prim.Native.Nat.{ℕ, zero, suc, _-_, _/_, _%_, _^_, _<_}
 use mathlib.Core.Path.{_≡_, refl, ap, sym, _∙_}
 use mathlib.Core.Bool.{Bool, true, false, cond, not, _&&_, _||_, true≢false}
 use mathlib.Core.List.{List, [], _∷_}

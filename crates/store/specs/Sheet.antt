@@ -6,7 +6,7 @@
 --   Move, moves                == what is done to all ports, and how they are kept then
 -- Assumes nothing.
 use Prim.Native.Nat.{ℕ}
-use mathlib.Core.Bool.{Bool, true, false}
+use mathlib.Core.Bool.{true}
 use mathlib.Core.List.{List, [], _∷_, map}
 use lib.ListN.{set, replicate}
 use Rattle.ports.specs.Sets.{aui, portCount}

@@ -3,11 +3,6 @@ use Rattle.record.proofs.Strays.{stray-write}
 use borrow.Author.Needs.{needs}
 use Rattle.record.proofs.stray_write.Statement.{statement}
 use Rattle.record.proofs.stray_write.Tie as tie
-use Rattle.record.proofs.stray_write.Reads as reads
-use Rattle.record.proofs.stray_write.Lts as lts
-use Rattle.record.proofs.long.Reads as long-reads
-use Rattle.record.proofs.other_words.Reads as other-words-reads
-use Rattle.spelling.proofs.four.Reads as four-reads
 
 shared-slice-read-four : tie.Need-shared-slice-read-four
 shared-slice-read-four c = search needs

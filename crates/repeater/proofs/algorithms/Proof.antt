@@ -3,10 +3,6 @@ use Rattle.repeater.proofs.MeetingLaws.{algorithms-made}
 use borrow.Author.Needs.{needs}
 use Rattle.repeater.proofs.algorithms.Statement.{statement}
 use Rattle.repeater.proofs.algorithms.Tie as tie
-use Rattle.repeater.proofs.algorithms.Reads as reads
-use Rattle.repeater.proofs.algorithms.Lts as lts
-use Rattle.ports.proofs.less.Reads as less-reads
-use Rattle.ports.proofs.only.Reads as only-reads
 
 only-requires : tie.Need-only-requires
 only-requires c κs = search needs

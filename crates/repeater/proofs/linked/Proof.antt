@@ -2,9 +2,6 @@ use Rattle.repeater.proofs.RepeaterLaws.{linked-made}
 use borrow.Author.Needs.{needs}
 use Rattle.repeater.proofs.linked.Statement.{statement}
 use Rattle.repeater.proofs.linked.Tie as tie
-use Rattle.repeater.proofs.linked.Reads as reads
-use Rattle.repeater.proofs.linked.Lts as lts
-use Rattle.store.proofs.Ports.passing.Reads as passing-reads
 
 passing-requires : tie.Need-passing-requires
 passing-requires c κs = search needs

@@ -2,11 +2,6 @@ use Rattle.repeater.proofs.RepeaterLaws.{listening-made}
 use borrow.Author.Needs.{needs}
 use Rattle.repeater.proofs.listening.Statement.{statement}
 use Rattle.repeater.proofs.listening.Tie as tie
-use Rattle.repeater.proofs.listening.Reads as reads
-use Rattle.repeater.proofs.listening.Lts as lts
-use Rattle.ports.proofs.less.Reads as less-reads
-use Rattle.repeater.proofs.transmitting.Reads as transmitting-reads
-use Rattle.store.proofs.Ports.partitioned.Reads as partitioned-reads
 
 transmitting-requires : tie.Need-transmitting-requires
 transmitting-requires c κs = search needs

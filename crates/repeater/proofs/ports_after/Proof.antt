@@ -2,13 +2,6 @@ use Rattle.repeater.proofs.MeetingLaws.{after-made}
 use borrow.Author.Needs.{needs}
 use Rattle.repeater.proofs.ports_after.Statement.{statement}
 use Rattle.repeater.proofs.ports_after.Tie as tie
-use Rattle.repeater.proofs.ports_after.Reads as reads
-use Rattle.repeater.proofs.ports_after.Lts as lts
-use Rattle.burst.proofs.Effect.clean.Reads as clean-reads
-use Rattle.burst.proofs.Effect.reconnecting.Reads as reconnecting-reads
-use Rattle.repeater.proofs.algorithms.Reads as algorithms-reads
-use Rattle.store.proofs.Ports.meet.Reads as meet-reads
-use Rattle.store.proofs.Ports.revive.Reads as revive-reads
 
 clean-requires : tie.Need-clean-requires
 clean-requires c κs = search needs

@@ -2,11 +2,6 @@ use Rattle.repeater.proofs.RepeaterLaws.{transmitting-made}
 use borrow.Author.Needs.{needs}
 use Rattle.repeater.proofs.transmitting.Statement.{statement}
 use Rattle.repeater.proofs.transmitting.Tie as tie
-use Rattle.repeater.proofs.transmitting.Reads as reads
-use Rattle.repeater.proofs.transmitting.Lts as lts
-use Rattle.ports.proofs.only.Reads as only-reads
-use Rattle.store.proofs.Ports.enabled.Reads as enabled-reads
-use Rattle.store.proofs.Ports.passing.Reads as passing-reads
 
 enabled-requires : tie.Need-enabled-requires
 enabled-requires c κs = search needs

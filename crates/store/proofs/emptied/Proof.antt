@@ -3,8 +3,6 @@ use Rattle.store.proofs.RowLaws.{emptied-tick, emptied-pulse, emptied-c
 use borrow.Author.Needs.{needs}
 use Rattle.store.proofs.emptied.Statement.{statement}
 use Rattle.store.proofs.emptied.Tie as tie
-use Rattle.store.proofs.emptied.Reads as reads
-use Rattle.store.proofs.emptied.Lts as lts
 
 enum-told : tie.Need-enum-told
 enum-told c = search needs

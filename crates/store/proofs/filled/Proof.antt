@@ -3,8 +3,6 @@ use Rattle.store.proofs.RowLaws.{filled-tick, filled-hush, filled-pulse
 use borrow.Author.Needs.{needs}
 use Rattle.store.proofs.filled.Statement.{statement}
 use Rattle.store.proofs.filled.Tie as tie
-use Rattle.store.proofs.filled.Reads as reads
-use Rattle.store.proofs.filled.Lts as lts
 
 enum-told : tie.Need-enum-told
 enum-told c = search needs

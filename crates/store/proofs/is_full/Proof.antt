@@ -2,8 +2,6 @@ use Rattle.store.proofs.RowLaws.{full-tick, full-pulse, full-collide}
 use borrow.Author.Needs.{needs}
 use Rattle.store.proofs.is_full.Statement.{statement}
 use Rattle.store.proofs.is_full.Tie as tie
-use Rattle.store.proofs.is_full.Reads as reads
-use Rattle.store.proofs.is_full.Lts as lts
 
 enum-told : tie.Need-enum-told
 enum-told c = search needs

@@ -1,5 +1,5 @@
 use Prim.Native.Nat.{_<_}
-use mathlib.Core.Path.{_≡_, refl, sym, _∙_}
+use mathlib.Core.Path.{_≡_, sym, _∙_}
 use native.Mathlib.Omega.{arith}
 use borrow.Author.Needs.{needs}
 use Rattle.ports.specs.Each.{each}
@@ -8,14 +8,6 @@ use Rattle.store.specs.Visits.{onSet, isFull, visited}
 use Rattle.store.proofs.Visiting.{Found, first-is, first-low, visit-none, visit-turn, found-none, found-in, found-out, found-all}
 use Rattle.store.proofs.visit_all.Statement.{statement}
 use Rattle.store.proofs.visit_all.Tie as tie
-use Rattle.store.proofs.visit_all.Reads as reads
-use Rattle.store.proofs.visit_all.Lts as lts
-use Rattle.ports.proofs.only.Reads as only-reads
-use Rattle.store.proofs.emptied.Reads as emptied-reads
-use Rattle.store.proofs.filled.Reads as filled-reads
-use Rattle.store.proofs.is_full.Reads as is-full-reads
-use Rattle.store.proofs.lowest.Reads as lowest-reads
-use Rattle.store.proofs.wide.Reads as wide-reads
 
 abbrev Inv-loop : tie.InvT-loop
 Inv-loop mask visit out₀ full₀ m₀ out full m = (m < 512) × (each (onSet m (visited visit)) out ≡ each (onSet mask (visited visit)) out₀) × Found (isFull visit) noRow mask out₀ full m out

@@ -2,9 +2,6 @@ use Rattle.repeater.specs.Door.{portAt}
 use borrow.Author.Needs.{needs}
 use Rattle.repeater.proofs.Repeater.port_at.Statement.{statement}
 use Rattle.repeater.proofs.Repeater.port_at.Tie as tie
-use Rattle.repeater.proofs.Repeater.port_at.Reads as reads
-use Rattle.repeater.proofs.Repeater.port_at.Lts as lts
-use Rattle.store.proofs.Ports.find.Reads as find-reads
 
 find-requires : tie.Need-find-requires
 find-requires c κs = search needs

@@ -1,12 +1,6 @@
 use borrow.Author.Needs.{needs}
 use Rattle.repeater.proofs.Repeater.power_up.Statement.{statement}
 use Rattle.repeater.proofs.Repeater.power_up.Tie as tie
-use Rattle.repeater.proofs.Repeater.power_up.Reads as reads
-use Rattle.repeater.proofs.Repeater.power_up.Lts as lts
-use Rattle.management.proofs.Status.power_up.Reads as power-up-reads
-use Rattle.port.proofs.Port.aui_power_up.Reads as aui-power-up-reads
-use Rattle.port.proofs.Port.tp_power_up.Reads as tp-power-up-reads
-use Rattle.store.proofs.Ports.alike.Reads as alike-reads
 
 tp-power-up-requires : tie.Need-tp-power-up-requires
 tp-power-up-requires c κs = search needs

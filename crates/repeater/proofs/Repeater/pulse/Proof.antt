@@ -3,9 +3,6 @@ use Rattle.repeater.specs.Door.{withPorts, eachPort}
 use borrow.Author.Needs.{needs}
 use Rattle.repeater.proofs.Repeater.pulse.Statement.{statement}
 use Rattle.repeater.proofs.Repeater.pulse.Tie as tie
-use Rattle.repeater.proofs.Repeater.pulse.Reads as reads
-use Rattle.repeater.proofs.Repeater.pulse.Lts as lts
-use Rattle.store.proofs.Ports.pulse.Reads as pulse-reads
 
 pulse-requires : tie.Need-pulse-requires
 pulse-requires c κs = search needs

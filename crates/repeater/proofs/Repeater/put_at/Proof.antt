@@ -3,9 +3,6 @@ use Rattle.repeater.specs.Door.{withPorts, putAt}
 use borrow.Author.Needs.{needs}
 use Rattle.repeater.proofs.Repeater.put_at.Statement.{statement}
 use Rattle.repeater.proofs.Repeater.put_at.Tie as tie
-use Rattle.repeater.proofs.Repeater.put_at.Reads as reads
-use Rattle.repeater.proofs.Repeater.put_at.Lts as lts
-use Rattle.store.proofs.Ports.put.Reads as put-reads
 
 put-requires : tie.Need-put-requires
 put-requires c κs = search needs

@@ -5,13 +5,6 @@ use Rattle.repeater.specs.declared.Those.{Those}
 use borrow.Author.Needs.{needs}
 use Rattle.repeater.proofs.Repeater.those.Statement.{statement}
 use Rattle.repeater.proofs.Repeater.those.Tie as tie
-use Rattle.repeater.proofs.Repeater.those.Reads as reads
-use Rattle.repeater.proofs.Repeater.those.Lts as lts
-use Rattle.repeater.proofs.linked.Reads as linked-reads
-use Rattle.repeater.proofs.listening.Reads as listening-reads
-use Rattle.repeater.proofs.transmitting.Reads as transmitting-reads
-use Rattle.store.proofs.Ports.enabled.Reads as enabled-reads
-use Rattle.store.proofs.Ports.partitioned.Reads as partitioned-reads
 
 enum-told : tie.Need-enum-told
 enum-told c = search needs

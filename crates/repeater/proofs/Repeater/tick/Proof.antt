@@ -3,9 +3,6 @@ use Rattle.repeater.specs.Door.{withPorts, eachPort}
 use borrow.Author.Needs.{needs}
 use Rattle.repeater.proofs.Repeater.tick.Statement.{statement}
 use Rattle.repeater.proofs.Repeater.tick.Tie as tie
-use Rattle.repeater.proofs.Repeater.tick.Reads as reads
-use Rattle.repeater.proofs.Repeater.tick.Lts as lts
-use Rattle.store.proofs.Ports.tick.Reads as tick-reads
 
 tick-requires : tie.Need-tick-requires
 tick-requires c κs = search needs

@@ -4,10 +4,6 @@ use Rattle.store.proofs.VisitLaws.{went, tick-made}
 use borrow.Author.Needs.{needs}
 use Rattle.store.proofs.Ports.tick.Statement.{statement}
 use Rattle.store.proofs.Ports.tick.Tie as tie
-use Rattle.store.proofs.Ports.tick.Reads as reads
-use Rattle.store.proofs.Ports.tick.Lts as lts
-use Rattle.ports.proofs.less.Reads as less-reads
-use Rattle.store.proofs.visit_all.Reads as visit-all-reads
 
 visit-all-requires : tie.Need-visit-all-requires
 visit-all-requires c κs = omega (arith, and-le-r (c .before .before .args .self .tested) 255)
