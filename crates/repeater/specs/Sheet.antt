@@ -10,7 +10,8 @@
 --   shortcuts     == a partitioned port is sent to, and jam is not clean
 --   links         == the link rules and the Sets at their boundaries
 --   Scene, scenes == a burst after some inputs, and the word, the ports sent to and the ports that collide: every case of 'Burst'
---   Order, orders == bursts after some inputs: T and H, which are those from before the burst; and after it, the TP ports whose link passes and the partitioned ports
+--   Order, orders == bursts after some inputs: T and H, which are those from before the burst; and after it, the TP ports whose link passes and the
+--                    partitioned ports
 --   story, told   == inputs of every kind, and the events that they are to TP0
 -- Assumes nothing.
 use Prim.Native.Nat.{ℕ}

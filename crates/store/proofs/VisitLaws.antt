@@ -29,7 +29,7 @@ use Rattle.store.specs.declared.Meetings.{Meetings}
 use Rattle.store.specs.declared.Visit.{Visit}
 use Rattle.store.specs.declared.Visit.the-variants.{Tick, Hush, Pulse, Revive, Collide, Calm}
 use Rattle.store.specs.Door.{noRow, rowOf, portOf, portIn, putIn, eachIn, metIn}
-use Rattle.store.specs.Visits.{onSet, isFull, visited}
+use Rattle.store.specs.Visits.{onSet, withCountRow, isFull, visited}
 use Rattle.store.proofs.Sheet.{moves-made}
 use Rattle.store.proofs.Masks.{has-first, has-less, has-set, has-with, has-without-one}
 use Rattle.store.proofs.Visiting.{or-true, or-false, holding, visited-at}
@@ -83,8 +83,8 @@ module _ (s : Ports) where
   unfolding standing
   standing-partitioned i = refl
 
-  pub set-in : (m : ℕ) (q : Port → Bool) (r : ℕ) → q noPort ≡ false → ((i : ℕ) → q (standing s i) ≡ has m i) → r ≡ setOf (λ i. ltb i (length (s .rows)) && has m i)
-      → r ≡ setOf (λ i. q (portIn s i))
+  pub set-in : (m : ℕ) (q : Port → Bool) (r : ℕ) → q noPort ≡ false → ((i : ℕ) → q (standing s i) ≡ has m i)
+      → r ≡ setOf (λ i. ltb i (length (s .rows)) && has m i) → r ≡ setOf (λ i. q (portIn s i))
   set-in m q r none h e =
       e ∙ gather-same 16 (λ i. ltb i (length (s .rows)) && has m i) (λ i. q (portIn s i)) (λ i l. go i (ltb i (length (s .rows))) refl)
     where
@@ -144,6 +144,13 @@ module _ (s : Ports) where
   put-none i p b x y = sym (put-past i p s (ltb-false i (length (s .rows)) (sym x ∙ y)))
 
 -- TICKS, LINK PULSES, ACTIVITY
+
+-- the ports with other links, and with other partitions
+abbrev linkedAs : Ports → ℕ → List Row → Ports
+linkedAs s passing rows = record { enabled = s .enabled; tested = s .tested; passing = passing; partitioned = s .partitioned; rows = rows }
+
+abbrev partedAs : Ports → ℕ → List Row → Ports
+partedAs s partitioned rows = record { enabled = s .enabled; tested = s .tested; passing = s .passing; partitioned = partitioned; rows = rows }
 
 -- what is done to TP ports alone is done to some of the nine
 tp-alone : {A : Type 0} (i : ℕ) (x y : A) → cond (ltb i 9) (cond (ltb i 8) x y) y ≡ cond (ltb i 8) x y
@@ -218,10 +225,10 @@ module _ (s : Ports) (mask : ℕ) where
 
 module _ (s : Ports) (low : s .passing < 65536) (nine : length (s .rows) ≡ 9) where
   pub tick-made : (next : List Row) (full passing : ℕ) → Went (bitAnd (s .tested) 255) Tick (s .rows) next full → passing ≡ without (s .passing) full
-      → _≡_ {A = Ports} (record { enabled = s .enabled; tested = s .tested; passing = passing; partitioned = s .partitioned; rows = next }) (eachIn tickedAt s)
+      → linkedAs s passing next ≡ eachIn tickedAt s
   unfolding standing tickedAt
   tick-made next full passing w e =
-      is-each tickedAt s (record { enabled = s .enabled; tested = s .tested; passing = passing; partitioned = s .partitioned; rows = next }) (w .long)
+      is-each tickedAt s (linkedAs s passing next) (w .long)
       (λ i. rw (e, has-less (s .passing) full i low (w .low), w .full-at i, w .row i, has-first 8 (s .tested) i, nine)
       (tick-port (ltb i 8) (has (s .enabled) i) (has (s .tested) i) (has (s .passing) i) (has (s .partitioned) i) (getD (s .rows) i noRow)
       ∙ sym (tp-alone i (ticked (standing s i)) (standing s i))))
@@ -234,26 +241,22 @@ module _ (s : Ports) (low : s .passing < 65536) (nine : length (s .rows) ≡ 9) 
     reached-low = rw r (omega (arith, and-le-r (bitAnd mask (s .tested)) 255))
 
     pub revive-made : (next : List Row) (full : ℕ) → Went reached Revive (s .rows) next full
-        → _≡_ {A = Ports}
-        (record { enabled = s .enabled; tested = s .tested; passing = bitOr (s .passing) reached; partitioned = s .partitioned; rows = next })
-        (eachIn (revivedAt mask) s)
+        → linkedAs s (bitOr (s .passing) reached) next ≡ eachIn (revivedAt mask) s
     unfolding standing revivedAt
     revive-made next full w =
         is-each (revivedAt mask) s
-        (record { enabled = s .enabled; tested = s .tested; passing = bitOr (s .passing) reached; partitioned = s .partitioned; rows = next }) (w .long)
+        (linkedAs s (bitOr (s .passing) reached) next) (w .long)
         (λ i. rw (has-or (s .passing) reached i, w .row i, reached-at i, nine)
         (revive-port (ltb i 8) (has mask i) (has (s .enabled) i) (has (s .tested) i) (has (s .passing) i) (has (s .partitioned) i) (getD (s .rows) i noRow)
         ∙ sym (tp-alone i (cond (has mask i) (revived (standing s i)) (standing s i)) (standing s i))))
 
     pub pulse-made : (quiet next : List Row) (hushed failing full : ℕ) → Went (bitAnd reached (s .passing)) Hush (s .rows) quiet hushed
         → failing ≡ without reached (s .passing) → Went failing Pulse quiet next full
-        → _≡_ {A = Ports}
-        (record { enabled = s .enabled; tested = s .tested; passing = bitOr (s .passing) full; partitioned = s .partitioned; rows = next })
-        (eachIn (pulsedAt mask) s)
+        → linkedAs s (bitOr (s .passing) full) next ≡ eachIn (pulsedAt mask) s
     unfolding standing pulsedAt
     pulse-made quiet next hushed failing full v f w =
         is-each (pulsedAt mask) s
-        (record { enabled = s .enabled; tested = s .tested; passing = bitOr (s .passing) full; partitioned = s .partitioned; rows = next }) (w .long ∙ v .long)
+        (linkedAs s (bitOr (s .passing) full) next) (w .long ∙ v .long)
         (λ i. rw (
           has-or (s .passing) full i,
           w .full-at i,
@@ -312,8 +315,9 @@ module _ (e t p : Bool) (r : Row) (k l w : Bool) (x last : ℕ) where
   meet-port true true false g = go k l (isFull (Collide last) r) refl
     where
       go : (k l f : Bool) → isFull (Collide last) r ≡ f
-          → portOf e t p ((k && isFull (Collide last) r) && true) (cond ((l && not k) || false) (visited Calm (cond k (visited (Collide last) r) r)) (cond k (visited (Collide last) r) r))
-          ≡ cond k (cond (partitioning met (r .count)) (portOf e t p true (visited Calm r)) (record { enabled = e; «link_test» = t; «link_pass» = p; idle = r .idle; pulses = r .pulses; partitioned = false; count = r .count + 1 }))
+          → portOf e t p ((k && isFull (Collide last) r) && true)
+          (cond ((l && not k) || false) (visited Calm (cond k (visited (Collide last) r) r)) (cond k (visited (Collide last) r) r))
+          ≡ cond k (cond (partitioning met (r .count)) (portOf e t p true (visited Calm r)) (portOf e t p false (withCountRow r (r .count + 1))))
           (cond l (portOf e t p false (visited Calm r)) (portOf e t p false r))
       go true true true q = rw (← g, q)
       go true true false q = rw (← g, q)
@@ -373,10 +377,10 @@ module _ (s : Ports) (b : Meetings) where
       pub meet-made : (last : ℕ) (counts next : List Row) (full none partitioned : ℕ) → last ≡ cond (ltb longAbove (b .x)) 0 (partitionsAt - 1)
           → Went (bitAnd connected (b .collided)) (Collide last) (s .rows) counts full → Went (bitOr others reconnected) Calm counts next none
           → partitioned ≡ without (bitOr (s .partitioned) full) reconnected
-          → _≡_ {A = Ports} (record { enabled = s .enabled; tested = s .tested; passing = s .passing; partitioned = partitioned; rows = next }) (eachIn (metIn b) s)
+          → partedAs s partitioned next ≡ eachIn (metIn b) s
       unfolding standing metIn partitioning
       meet-made last counts next full none partitioned q v w e =
-          is-each (metIn b) s (record { enabled = s .enabled; tested = s .tested; passing = s .passing; partitioned = partitioned; rows = next }) (w .long ∙ v .long)
+          is-each (metIn b) s (partedAs s partitioned next) (w .long ∙ v .long)
           (λ i. rw (
             e,
             has-less (bitOr (s .partitioned) full) reconnected i (or-lt 16 (s .partitioned) full low (v .low)) (omega (arith, reconnected-low)),
@@ -395,5 +399,6 @@ module _ (s : Ports) (b : Meetings) where
         where
           full-is : (i : ℕ)
               → isFull (Collide last) (getD (s .rows) i noRow)
-              ≡ partitioning (record { collided = has (b .collided) i; clean = has (b .clean) i; reconnecting = has (b .back) i; x = b .x }) (getD (s .rows) i noRow .count)
+              ≡ partitioning (record { collided = has (b .collided) i; clean = has (b .clean) i; reconnecting = has (b .back) i; x = b .x })
+              (getD (s .rows) i noRow .count)
           full-is i = rw q (full-long (getD (s .rows) i noRow .count) (ltb longAbove (b .x)))

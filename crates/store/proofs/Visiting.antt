@@ -170,7 +170,8 @@ module _ {A : Type 0} (t : A → Bool) (d : A) (mask : ℕ) (xs : List A) where
         go j true e =
             let q = eqb-true j i e in
             let s = settled (has found i) (t (getD ys i d)) (t (getD (set ys i y) i d)) in
-            let k : (has found i || (true && t (getD ys i d))) ≡ holding t d mask xs i = ap (λ (b : Bool). has found i || (b && t (getD ys i d))) (sym (w .is)) ∙ g .at i in
+            let k : (has found i || (true && t (getD ys i d))) ≡ holding t d mask xs i =
+            ap (λ (b : Bool). has found i || (b && t (getD ys i d))) (sym (w .is)) ∙ g .at i in
             rw (q, a, left-itself m i rest w) (s ∙ k)
         go j false e =
             let q = eqb-false j i e in

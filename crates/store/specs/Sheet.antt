@@ -1,12 +1,14 @@
--- How nine ports are kept, as tables: ports put and found again, masks with every bit set, AUI's bits in the sets that have none for it, and what is done to
--- all ports at their boundaries. proofs/Sheet.antt computes every row.
+-- How nine ports are kept, as tables: ports put and found again, masks with every bit set, AUI's bits in the sets that have none for it, power-up, and what is
+-- done to all ports at their boundaries. proofs/Sheet.antt computes every row.
 --   keeping e t p c row        == nine places with these masks and this row at each; withAui row r == with the row r at AUI's place
 --   Put, puts, taken           == a port with nothing set put at a place where every bit is set, and a port with everything set put at a place where none is:
 --                                 each mask then, and what is counted as idle at the first ten places
+--   some, differing, withSome  == a port with some bits set, masks that differ, and these with that port at TP3
+--   up                         == the ports at power-up: all enabled, links tested and failing but for AUI, which is not tested and passes
 --   Move, moves                == what is done to all ports, and how they are kept then
 -- Assumes nothing.
 use Prim.Native.Nat.{ℕ}
-use mathlib.Core.Bool.{true}
+use mathlib.Core.Bool.{true, false}
 use mathlib.Core.List.{List, [], _∷_, map}
 use lib.ListN.{set, replicate}
 use Rattle.ports.specs.Sets.{aui, portCount}
@@ -26,6 +28,9 @@ keeping e t p c r = record { enabled = e; tested = t; passing = p; partitioned =
 
 abbrev pub withAui : Row → Ports → Ports
 withAui r s = record { enabled = s .enabled; tested = s .tested; passing = s .passing; partitioned = s .partitioned; rows = set (s .rows) aui r }
+
+abbrev pub up : Ports
+up = keeping 511 255 256 0 (row 0 0 0)
 
 -- ONE PORT
 
@@ -84,6 +89,16 @@ gives =
     ∷ put 8 256 (0 ∷ 0 ∷ 0 ∷ 0 ∷ 0 ∷ 0 ∷ 0 ∷ 0 ∷ 200 ∷ 0 ∷ [])
     ∷ put 9 0 (0 ∷ 0 ∷ 0 ∷ 0 ∷ 0 ∷ 0 ∷ 0 ∷ 0 ∷ 0 ∷ 0 ∷ [])
     ∷ []
+
+-- a port with some of them, among masks that differ
+abbrev pub some : Port
+some = record { enabled = true; «link_test» = false; «link_pass» = true; idle = 1; pulses = 2; partitioned = false; count = 3 }
+
+abbrev pub differing : Ports
+differing = keeping 0 65535 1 65534 (row 7 8 9)
+
+abbrev pub withSome : Ports
+withSome = record { enabled = 8; tested = 65527; passing = 9; partitioned = 65526; rows = set (replicate portCount (row 7 8 9)) 3 (row 1 2 3) }
 
 -- ALL PORTS
 
