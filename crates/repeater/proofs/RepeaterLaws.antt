@@ -1,7 +1,7 @@
 -- Laws of the whole repeater's definitions, as the code makes them. Assumes nothing.
 use Prim.Native.Nat.{ℕ, _-_, _%_, _<_}
 use mathlib.Core.Path.{_≡_, refl, ap, _∙_}
-use mathlib.Core.Bool.{Bool, true, false, not, _&&_, _||_}
+use mathlib.Core.Bool.{Bool, not, _&&_, or-comm}
 use native.Mathlib.Omega.{arith}
 use borrow.Author.Tests.{lt-ltb}
 use lib.Dec.{eqb, ltb}
@@ -58,19 +58,12 @@ connected-byte r =
     ∙ ap (λ (b : Bool). not b) (has-mod 8 (partitionedOf r) i h ∙ those-has Partitioned r i (omega arith) ∙ severed r i))
 
 -- the sets of ports, from the masks that are kept
-
 module _ (s : Ports) where
   set-has : (q : Port → Bool) (m i : ℕ) → m ≡ setOf (λ j. q (portIn s j)) → i < 16 → has m i ≡ q (portIn s i)
   set-has q m i e l = rw e (has-gather 16 (λ j. q (portIn s j)) i l)
 
   set-low : (q : Port → Bool) (m : ℕ) → m ≡ setOf (λ j. q (portIn s j)) → m < 65536
   set-low q m e = rw e (gather-lt 16 (λ j. q (portIn s j)))
-
-  or-same : (a b : Bool) → (a || b) ≡ (b || a)
-  or-same true true = refl
-  or-same true false = refl
-  or-same false true = refl
-  or-same false false = refl
 
   pub transmitting-made : (e p one : ℕ) → e ≡ setOf (λ i. portIn s i .enabled) → p ≡ setOf (λ i. portIn s i .«link_pass») → one ≡ setOf (λ i. eqb i aui)
       → bitAnd e (bitOr p one) ≡ setOf (λ i. transmits i (portIn s i))
@@ -80,7 +73,7 @@ module _ (s : Ports) where
       (omega (arith, and-le-l e (bitOr p one), set-low (λ (q : Port). q .enabled) e u))
       (λ i l. has-and e (bitOr p one) i
       ∙ rw (set-has (λ (q : Port). q .enabled) e i u l, has-or p one i, set-has (λ (q : Port). q .«link_pass») p i v l, o, has-gather 16 (λ j. eqb j aui) i l)
-      (ap (λ (b : Bool). portIn s i .enabled && b) (or-same (portIn s i .«link_pass») (eqb i aui))))
+      (ap (λ (b : Bool). portIn s i .enabled && b) (or-comm (portIn s i .«link_pass») (eqb i aui))))
 
   pub listening-made : (t c m : ℕ) → t ≡ setOf (λ i. transmits i (portIn s i)) → c ≡ setOf (λ i. portIn s i .partitioned) → m ≡ without t c
       → m ≡ setOf (λ i. listens i (portIn s i))

@@ -5,7 +5,7 @@
 --   tick-made, pulse-made, revive-made, meet-made == the ports after a tick, link pulses, activity, a burst
 use Prim.Native.Nat.{ℕ, _+_, _-_, _<_}
 use mathlib.Core.Path.{_≡_, refl, ap, sym, _∙_}
-use mathlib.Core.Bool.{Bool, true, false, cond, not, _&&_, _||_}
+use mathlib.Core.Bool.{Bool, true, false, cond, not, _&&_, _||_, or-true, or-false}
 use mathlib.Core.List.{List}
 use native.Mathlib.Omega.{arith}
 use borrow.Author.Tests.{eqb-true, eqb-false, ltb-true, ltb-false, lt-ltb, le-leb}
@@ -32,7 +32,7 @@ use Rattle.store.specs.Door.{noRow, rowOf, portOf, portIn, putIn, eachIn
 use Rattle.store.specs.Visits.{onSet, withCountRow, isFull, visited}
 use Rattle.store.proofs.Sheet.{moves-made}
 use Rattle.store.proofs.Masks.{has-first, has-less, has-set, has-with, has-without-one}
-use Rattle.store.proofs.Visiting.{or-true, or-false, holding, visited-at}
+use Rattle.store.proofs.Visiting.{holding, visited-at}
 use Rattle.store.proofs.RowLaws.{one-less}
 use Rattle.store.proofs.DoorLaws.{standing, split, places-rows, port-within, port-past, is-put, put-past, is-each}
 

@@ -5,7 +5,7 @@
 --   visited-at              == what stands at a place when all is done
 use Prim.Native.Nat.{ℕ, zero, suc, _-_, _/_, _%_, _^_, _<_}
 use mathlib.Core.Path.{_≡_, refl, ap, sym, _∙_}
-use mathlib.Core.Bool.{Bool, true, false, cond, not, _&&_, _||_, true≢false}
+use mathlib.Core.Bool.{Bool, true, false, cond, not, _&&_, _||_, and-true, or-false, true≢false}
 use mathlib.Core.List.{List, [], _∷_}
 use native.Mathlib.Nat.{pow-succ'}
 use native.Mathlib.Omega.{arith}
@@ -20,18 +20,6 @@ use Rattle.ports.specs.Each.{each}
 use Rattle.ports.proofs.Sets.{has-and, has-or, has-past, has-none, gather-lt, is-gather}
 use Rattle.store.specs.Visits.{onSet}
 use Rattle.store.proofs.Masks.{one-has}
-
-pub or-true : (b : Bool) → (b || true) ≡ true
-or-true true = refl
-or-true false = refl
-
-pub or-false : (b : Bool) → (b || false) ≡ b
-or-false true = refl
-or-false false = refl
-
-and-true : (b : Bool) → (b && true) ≡ b
-and-true true = refl
-and-true false = refl
 
 -- THE LOWEST PLACE
 
