@@ -14,10 +14,11 @@ from checks import Checks, TOP
 RT = '''#!/bin/sh
 echo "$*" >> "$(dirname "$0")/asked"
 [ ! -e "$(dirname "$0")/broken" ] || exit 1
-mkdir -p target/bin && cp crates/run/src/main.rt target/bin/run && chmod +x target/bin/run
+mkdir -p target/bin && cp "crates/$2/src/main.rt" "target/bin/$2" && chmod +x "target/bin/$2"
 '''
 LOADER = '#!/bin/sh\nshift 2\nexec "$@"\n'
 PROGRAM = '#!/bin/sh\nhead -c 32 > /dev/null\necho 1 ok\n'
+EXPORT = '#!/bin/sh\ncat > /dev/null\necho attribute,tp0,tp1,tp2,tp3,tp4,tp5,tp6,tp7,aui\necho Runts,1,2,3,4,5,6,7,8,9\necho "export: 2 records refused" >&2\n'
 PROVING = 'proving it first, then building it (rt check run); this takes minutes'
 
 
@@ -26,7 +27,8 @@ def make(folder):
     for name in ('roverivet', 'tools', 'clients'):
         copy = shutil.copytree if (TOP / name).is_dir() else shutil.copy
         copy(TOP / name, folder / 'repository' / name)
-    files = {'repository/crates.txt': 'run:\n', 'repository/crates/run/src/main.rt': PROGRAM, 'kit/bin/rt': RT,
+    files = {'repository/crates.txt': 'run:\n', 'repository/crates/run/src/main.rt': PROGRAM,
+             'repository/crates/export/src/main.rt': EXPORT, 'kit/bin/rt': RT,
              f'kit/on/{os.uname().machine}/toolchain/lib/ld-linux-x86-64.so.2': LOADER}
     for name, content in files.items():
         (folder / name).parent.mkdir(parents=True, exist_ok=True)
@@ -69,11 +71,22 @@ def main():
         past = time.time() - 5
         os.utime(source, (past, past))
         checks.equal(run('build'), (0, 'ready: the program answers records\n', '', ''), 'build with nothing to do')
+        other = 'target/bin/export is missing or older than its sources: proving it first, then building it (rt check export)'
+        printed = 'attribute,tp0,tp1,tp2,tp3,tp4,tp5,tp6,tp7,aui\nRunts,1,2,3,4,5,6,7,8,9\n'
+        checks.equal(run('export', '--text', '--attribute', 'Runts'), (0, printed, f'roverivet: {other}\nroverivet: 2 records refused', 'check export\n'),
+                     'the program that export needs')
+        checks.equal(run('export', '--text', '--attribute', 'Runts'), (0, printed, 'roverivet: 2 records refused', ''), 'and not asked again')
+        checks.equal(run('export', '--text', '--attribute', 'Collisions')[::2], (1, "roverivet: the program export printed 'Runts,1,2,3,4,5,6,7,8,9' for Collisions"),
+                     'a line for another attribute')
+        checks.equal(run('export', '--text')[0], 1, 'too few lines')
         later()
         (folder / 'kit' / 'bin' / 'broken').touch()
         status, output, said, _ = run('run', '--text')
         checks.equal((status, output, said.splitlines()[-1]),
                      (3, '', 'roverivet: rt check run failed: the program is not proved, so it is not run'), 'what is not proved is not run')
+        status, output, said, _ = run('export', '--text')
+        checks.equal((status, output, said.splitlines()[-1]),
+                     (3, '', 'roverivet: rt check export failed: the program is not proved, so it is not run'), 'nor is an export that is not proved')
         bare = os.pathsep.join(part for part in os.environ['PATH'].split(os.pathsep)
                                if not os.access(os.path.join(part, 'rt'), os.X_OK))
         checks.equal(run('run', '--text', path=bare),

@@ -26,6 +26,7 @@ import generate
 import program
 import roverivet
 from record import SAMPLE
+from robust import any_record
 from roverivet import ATTRIBUTES, BANKS, PORTS, SIZE, START_SIZE
 from tools import export, startfile, text
 from tools.watch import READ, select
@@ -167,6 +168,15 @@ def in_pieces(checks):
         checks.equal((cut.lines, cut.message.encode(), cut.status), (csv(rows), told(refused), 0), f'seed {seed}: in pieces')
 
 
+def any_bytes(checks):
+    """Records that are often damaged, and a tail of any length."""
+    draw = random.Random('any bytes')
+    for turn in range(20):
+        data = b''.join(any_record(draw) for _ in range(600)) + draw.randbytes(draw.randrange(SIZE))
+        rows, refused = read_by('model', data, None)
+        checks.equal(output(exporting('all'), data), (csv(rows), told(refused), 0), f'random trace {turn}')
+
+
 def counted(checks):
     """Refusals are counted whatever they are refused with, also one alone and many."""
     bad, short = roverivet.Record(roverivet.TICK, mask=1).pack(), b'\x03'
@@ -300,7 +310,7 @@ def main():
     need_program()
     checks = Checks()
     if checks.check(export.usable(), f'there is a program {export.EXPORT}'):
-        for part in (same_counters, every_place, lengths, in_pieces, counted, used_badly, closed_and_full, client):
+        for part in (same_counters, every_place, lengths, in_pieces, any_bytes, counted, used_badly, closed_and_full, client):
             part(checks)
         with tempfile.TemporaryDirectory() as name:
             verb(checks, Path(os.path.realpath(name)))

@@ -108,12 +108,12 @@ rule('unlisted_command_is_6', 'Numbers turned away with', '4 for a byte that is 
      *both('access', 'Access', '(turnedAway c h 4)', '(turnedAway c h 6)', 'lib', 'Acted::turn_away(core, h, 4)', 'Acted::turn_away(core, h, 6)'))
 rule('write_only_is_5', 'Numbers turned away with', '6 for reading what can only be written.', '5',
      ('access/specs/Access.antt', '(cond (not (selectedBy h .readable)) (turnedAway c h 6)', '(cond (not (selectedBy h .readable)) (turnedAway c h 5)'),
-     ('access/src/lib.rt', '        return read(core, nine, h, row);\n    }\n    Acted::turn_away(core, h, 6)', '        return read(core, nine, h, row);\n    }\n    Acted::turn_away(core, h, 5)'))
+     ('access/src/lib.rt', '        return read(core, counters, addresses, h, row);\n    }\n    Acted::turn_away(core, h, 6)', '        return read(core, counters, addresses, h, row);\n    }\n    Acted::turn_away(core, h, 5)'))
 rule('refused_read_clears', 'Numbers turned away with', 'What is turned away changes nothing.', 'a D read that is turned away with 6 clears the change bits',
      ('access/specs/Access.antt', '(cond (not (selectedBy h .readable)) (turnedAway c h 6)',
       '(cond (not (selectedBy h .readable)) (turnedAway (withChanges c (lib.ListN.replicate 8 0)) h 6)'),
-     ('access/src/lib.rt', '        return read(core, nine, h, row);\n    }\n    Acted::turn_away(core, h, 6)',
-      '        return read(core, nine, h, row);\n    }\n    let mut still = core;\n    still.changes = [0; 8];\n    Acted::turn_away(still, h, 6)'))
+     ('access/src/lib.rt', '        return read(core, counters, addresses, h, row);\n    }\n    Acted::turn_away(core, h, 6)',
+      '        return read(core, counters, addresses, h, row);\n    }\n    let mut still = core;\n    still.changes = [0; 8];\n    Acted::turn_away(still, h, 6)'))
 rule('octet_check_with_9', 'Numbers turned away with', '10 for an octet check about too many frames.', '9',
      *both('attributes', 'Octets', '(TurnedAway 10)', '(TurnedAway 9)', 'octets', 'Check::TurnedAway(10)', 'Check::TurnedAway(9)'))
 rule('octet_check_one_frame_more', 'Numbers turned away with', '10 from 2,829,360 frames on.', 'from 2,829,361 on',
@@ -170,14 +170,14 @@ rule('transmit_collisions_by_two', 'Burst', 'Transmit Collisions goes up by one.
 
 rule('very_long_for_a_single_port', 'Burst', 'Very Long Events for each heard port.', 'for a single heard port without collision',
      ('attributes/specs/Credits.antt', '(one (share .heard && ltb jabberAbove (burst .d)))', '(one (share .single && ltb jabberAbove (burst .d)))'),
-     ('attributes/src/lib.rt', 'once(share.heard & (Activity::JABBER_ABOVE < burst.d))', 'once(single & (Activity::JABBER_ABOVE < burst.d))'))
+     ('attributes/src/lib.rt', 'those(Activity::JABBER_ABOVE < burst.d, due.heard)', 'those(Activity::JABBER_ABOVE < burst.d, own)'))
 rule('late_at_512', 'Burst', 'Late Events where c is above 512.', 'above 511',
      *both('attributes', 'Credits', 'lateAbove = 512', 'lateAbove = 511', 'lib', 'pub const LATE_ABOVE: u32 = 512;', 'pub const LATE_ABOVE: u32 = 511;'))
 rule('late_without_a_collision', 'Burst', 'Late Events come with Collisions.', 'with every heard port',
      *both('attributes', 'Credits', '(one (share .collision && ltb lateAbove (burst .c)))', '(one (share .heard && ltb lateAbove (burst .c)))',
-           'lib', 'once(share.collision & (Attributes::LATE_ABOVE < burst.c))', 'once(share.heard & (Attributes::LATE_ABOVE < burst.c))'))
+           'lib', 'those(Attributes::LATE_ABOVE < burst.c, crowd)', 'those(Attributes::LATE_ABOVE < burst.c, due.heard)'))
 rule('collisions_for_a_single_port', 'Burst', 'Collisions for each heard port of a collision.', 'for every heard port',
-     *both('attributes', 'Credits', '(one (share .collision))', '(one (share .heard))', 'lib', 'once(share.collision);', 'once(share.heard);'))
+     *both('attributes', 'Credits', '(one (share .collision))', '(one (share .heard))', 'lib', 'bump(counters, crowd, Attributes::COLLISIONS, 1);', 'bump(counters, due.heard, Attributes::COLLISIONS, 1);'))
 rule('short_at_78', 'Burst', 'Short Events below 78.', 'below 79',
      *both('attributes', 'Credits', 'shortBelow = 78', 'shortBelow = 79', 'lib', 'pub const SHORT_BELOW: u32 = 78;', 'pub const SHORT_BELOW: u32 = 79;'))
 rule('runts_of_64', 'Burst', 'Runts below 64 octets.', 'below 65',
@@ -194,7 +194,7 @@ rule('too_long_before_short', 'Burst', 'The classes are asked in their order.', 
       '    if burst.n < Attributes::SHORTEST {\n        return Attributes::RUNTS;\n    }\n    if burst.d < Attributes::SHORT_BELOW {\n        return Attributes::SHORT_EVENTS;\n    }'))
 rule('octets_plus_one', 'Burst', "A readable frame adds n to its port's octets.", 'n + 1',
      *both('attributes', 'Credits', '(cond (inClass share readableFrames) (burst .n) 0)', '(cond (inClass share readableFrames) (burst .n + 1) 0)',
-           'lib', 'amount(frame, burst.n);\n    out[Attributes::FCS_ERRORS]', 'amount(frame, burst.n + 1);\n    out[Attributes::FCS_ERRORS]'))
+           'lib', 'Attributes::READABLE_OCTETS, burst.n);', 'Attributes::READABLE_OCTETS, std::num::wrapping_add_u32(burst.n, 1));'))
 rule('total_octets_of_every_burst', 'Burst', 'Total Octets gets the octets of readable frames.', 'of every burst',
      *both('attributes', 'Credits', 'octets = cond (framed single class) (burst .n) 0;', 'octets = burst .n;',
            'lib', 'let octets = amount(frame, burst.n);', 'let octets = burst.n;'))
@@ -203,10 +203,10 @@ rule('total_octets_still', 'Burst', 'Total Octets gets the octets of readable fr
            'lib', 'std::num::wrapping_add_u32(kept.total_octets, octets)', 'std::num::wrapping_add_u32(kept.total_octets, 0)'))
 rule('address_of_every_class', 'Burst', "A readable frame's address stays as the last.", "every single burst's does",
      *both('attributes', 'Credits', 'address = cond (inClass share readableFrames) source (port .address)', 'address = cond (share .single) source (port .address)',
-           'lib', 'if share.single & (share.class == Attributes::READABLE_FRAMES) {', 'if share.single {'))
+           'lib', '    if due.class == Attributes::READABLE_FRAMES {', '    if due.class < Attributes::COUNT {'))
 rule('every_frame_is_a_change', 'Burst', 'Source Address Changes counts addresses that differ from the last.', 'every readable frame',
      *both('attributes', 'Credits', 'cond (frame && not (sameAddress source (addressOf nine single)))', 'cond frame',
-           'lib', '            if same_address(source, self.address(single)) {\n                return 0;\n            }\n', ''))
+           'lib', '        if same_address(source, address(addresses, single)) {\n            return 0;\n        }\n', ''))
 rule('five_bytes_compared', 'Burst', 'Two addresses differ if any of their six bytes does.', 'any of the first five',
      ('attributes/specs/Credits.antt', '    && eqb (getD s 4 0) (getD a 4 0)\n    && eqb (getD s 5 0) (getD a 5 0)', '    && eqb (getD s 4 0) (getD a 4 0)'),
      ('attributes/src/lib.rt', '        & (s[4] == a[4])\n        & (s[5] == a[5])', '        & (s[4] == a[4])'))
@@ -216,9 +216,9 @@ rule('mismatch_at_552', 'Burst', 'Data Rate Mismatches above 552.', 'above 551',
      *both('attributes', 'Credits', 'mismatchAbove = 552', 'mismatchAbove = 551', 'lib', 'pub const MISMATCH_ABOVE: u32 = 552;', 'pub const MISMATCH_ABOVE: u32 = 551;'))
 rule('mismatch_of_all_heard', 'Burst', 'Data Rate Mismatches for a single heard port without collision.', 'for every heard port',
      *both('attributes', 'Credits', '(one (share .single && burst .«rate_error»', '(one (share .heard && burst .«rate_error»',
-           'lib', 'let mistimed = single & burst.rate_error;', 'let mistimed = share.heard & burst.rate_error;'))
+           'lib', 'burst.rate_error & (Attributes::MISMATCH_ABOVE < burst.d),\n        own,', 'burst.rate_error & (Attributes::MISMATCH_ABOVE < burst.d),\n        due.heard,'))
 rule('auto_partitions_of_heard_ports', 'Partition', 'Auto Partitions for each port that is partitioned.', 'if it was heard',
-     *both('attributes', 'Credits', '(one (share .cut))', '(one (share .cut && share .heard))', 'lib', 'once(share.cut);', 'once(share.cut & share.heard);'))
+     *both('attributes', 'Credits', '(one (share .cut))', '(one (share .cut && share .heard))', 'lib', 'bump(counters, due.cut, Attributes::AUTO_PARTITIONS, 1);', 'bump(counters, due.cut & due.heard, Attributes::AUTO_PARTITIONS, 1);'))
 rule('reconnecting_credited', 'Partition', 'Auto Partitions when a port becomes partitioned.', 'when it is connected again',
      *both('himib', 'Bursts', 'cut = without (partitionedOf (t .repeater)) (partitionedOf (c .repeater));', 'cut = without (partitionedOf (c .repeater)) (partitionedOf (t .repeater));',
            'lib', 'cut: ports::less(after, before),', 'cut: ports::less(before, after),'))
@@ -529,7 +529,7 @@ rule('past_the_end_is_the_last', 'Host registers', "A place past the register's 
      ('host/src/lib.rt', '            return host.place;\n        }\n        return Host::FIRST;', '            return host.place;\n        }\n        return 1;'))
 rule('written_address_is_counted', 'Host registers', 'A write of the address is no change.', 'it is counted',
      ('attributes/specs/Nine.antt', 'withAddress port source = record { counters = port .counters; address = source }', 'withAddress port source = record { counters = set (port .counters) 12 1; address = source }'),
-     ('attributes/src/lib.rt', '        port.address = source;\n        out[i] = port;', '        let mut counters = port.counters;\n        counters[12] = 1;\n        port.counters = counters;\n        port.address = source;\n        out[i] = port;'))
+     ('himib/src/lib.rt', '    attributes::readdress(addresses, acted.port, bytes);', '    attributes::readdress(addresses, acted.port, bytes);\n    if acted.port < ports::COUNT {\n        counters[108 + acted.port] = 1;\n    }'))
 rule('get_error_reversed', 'Host registers', 'A Get through S sets the interface error, one through G does not.', 'the other way round',
      ('access/specs/Access.antt', '(c .«interface_error» || not throughG)', '(c .«interface_error» || throughG)'),
      ('access/src/lib.rt', 'core.interface_error | !through_g', 'core.interface_error | through_g'))

@@ -28,10 +28,23 @@ static void show_counter(const char *name, unsigned p, unsigned r)
         printf("%s: %lu\n", name, (unsigned long)value);
 }
 
+static void show_attribute(const char *name, unsigned r)
+{
+    uint32_t values[9] = {0};
+    int refused = roverivet_attribute(&chip, r, values);
+    if (refused) {
+        printf("%s: refused %d\n", name, refused);
+        return;
+    }
+    printf("%s:", name);
+    for (int port = 0; port < 9; port++)
+        printf(" %lu", (unsigned long)values[port]);
+    printf("\n");
+}
+
 int main(void)
 {
-    unsigned char record[ROVERIVET_SIZE], changes;
-    uint32_t values[9];
+    unsigned char record[ROVERIVET_SIZE], changes = 0;
     struct roverivet_answer answer;
     if (roverivet_open(&chip, NULL, NULL)) {
         perror("sample");
@@ -51,12 +64,7 @@ int main(void)
     show_counter("Readable Frames of TP0", 16, 0);
     show_counter("Collisions of TP0", 16, 7);
     show_counter("Auto Partitions of TP1", 17, 11);
-    if (roverivet_attribute(&chip, 7, values) == 0) {
-        printf("Collisions of all ports:");
-        for (int port = 0; port < 9; port++)
-            printf(" %lu", (unsigned long)values[port]);
-        printf("\n");
-    }
+    show_attribute("Collisions of all ports", 7);
     show_counter("Transmit Collisions", 0, 12);
     show_counter("P 0 R 0", 0, 0);
     if (roverivet_read(&chip, 1, 0, &changes, 1) == 0)

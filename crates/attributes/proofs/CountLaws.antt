@@ -6,15 +6,14 @@
 --   credited, credit-made                        == and with the address they are the credits of a burst
 use Prim.Native.Nat.{ℕ, zero, suc, _+_, _-_, _%_, _^_, _≤_, _<_}
 use mathlib.Core.Path.{_≡_, refl, ap, ap₂, sym, _∙_}
-use mathlib.Core.Bool.{Bool, true, false, cond, not, _&&_, _||_, and-true, and-false}
-use mathlib.Core.List.{List, [], _∷_}
+use mathlib.Core.Bool.{Bool, true, false, cond, _&&_, _||_, and-true, and-false}
+use mathlib.Core.List.{List, []}
 use native.Mathlib.Omega.{arith}
 use borrow.Author.Tests.{eq-eqb, ne-eqb, eqb-true, eqb-false, lt-ltb, le-ltb, ltb-true, ltb-false}
 use lib.Dec.{eqb, ltb}
 use lib.Bits.{bitAnd, bitOr}
 use lib.ListN.{length, getD, set, length-set}
 use Rattle.ports.specs.Sets.{portCount, nobody, has, setOf}
-use Rattle.ports.specs.Each.{each}
 use Rattle.ports.proofs.Sets.{has-none, has-and, has-or, has-others, has-gather}
 use Rattle.ports.proofs.Places.{First, left-itself, left-other}
 use Rattle.record.specs.declared.Burst.{Burst}
@@ -26,7 +25,7 @@ use Rattle.attributes.specs.declared.Met.{Met}
 use Rattle.attributes.specs.declared.Share.{Share}
 use Rattle.attributes.specs.Nine.{readableFrames, readableOctets, collisions, lateEvents, veryLongEvents, rateMismatches, autoPartitions, addressChanges}
 use Rattle.attributes.specs.Nine.{counterCount, portOf, withPort, withAddress, readdressed}
-use Rattle.attributes.specs.Credits.{lateAbove, mismatchAbove, classOf, dueOf, shareOf, one, inClass, creditFor, creditsOf, creditOf, counted, creditedWith, creditedAt}
+use Rattle.attributes.specs.Credits.{lateAbove, mismatchAbove, classOf, dueOf, shareOf, one, creditFor, creditsOf, creditOf, counted, creditedWith, creditedAt}
 use Rattle.attributes.specs.Credits.{creditedAll}
 use Rattle.attributes.specs.Flat.{place, flatSize, spot, spotsSize, listed, recordAt, nineOf, Counters, Counting, Readdressed, Credited}
 use Rattle.attributes.specs.Counts.{countedFor, framedPort, Written, Laid}

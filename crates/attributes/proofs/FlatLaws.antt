@@ -23,8 +23,9 @@ use Rattle.attributes.specs.declared.Nine.{Nine}
 use Rattle.attributes.specs.declared.Met.{Met}
 use Rattle.attributes.specs.Nine.{counterCount, noAttributes, portOf, counterOf, addressOf, withPort, withAddress, readdressed, Proper}
 use Rattle.attributes.specs.Credits.{changedBy, dueOf}
-use Rattle.attributes.specs.Flat.{place, flatSize, spot, spotsSize, listed, recordAt, nineOf, flatOf, spotsOf, stretchOf, Counters, Six, Readdressed, withCounter}
+use Rattle.attributes.specs.Flat.{place, flatSize, spot, spotsSize, listed, recordAt, nineOf, flatOf, spotsOf, stretchOf, Counters, Six, Readdressed, FlatBack, NineBack, StoreIsOne, StretchIsOne}
 use Rattle.attributes.specs.Counts.{Written, Laid}
+use Rattle.attributes.proofs.FlatSheet.{bursts-kept}
 use Rattle.attributes.proofs.Listed.{listed-length, listed-at, listed-same, listed-all, listed-part, set-listed}
 
 nothing-at : (n i : ℕ) → _≡_ {A = ℕ} (getD (replicate n 0) i 0) 0
@@ -135,6 +136,9 @@ spots-back flat addresses e =
     (λ k h. byte-held flat addresses (k / 6) (k % 6) (omega arith) (omega arith) ∙ ap (λ (j : ℕ). getD addresses j 0) (omega arith))
     ∙ listed-all spotsSize addresses 0 e
 
+pub both-back : FlatBack
+both-back flat addresses e f = (flat-back flat addresses e, spots-back flat addresses f)
+
 -- two pairs of arrays that stand for the same records are the same
 pub nine-one : (flat addresses later last : List ℕ) → length flat ≡ flatSize → length later ≡ flatSize → length addresses ≡ spotsSize → length last ≡ spotsSize
     → nineOf flat addresses ≡ nineOf later last → (flat ≡ later) × (addresses ≡ last)
@@ -163,18 +167,18 @@ nine-is nine flat addresses proper six counters bytes =
     all : listed portCount (portOf nine) ≡ nine .ports
     all = listed-all portCount (nine .ports) noAttributes (proper .ports)
 
-pub nine-back : (nine : Nine) → Proper nine → Six nine → nineOf (flatOf nine) (spotsOf nine) ≡ nine
+pub nine-back : NineBack
 unfolding flatOf spotsOf
 nine-back nine proper six =
     nine-is nine (flatOf nine) (spotsOf nine) proper six
     (λ i r h k.
-        let q : place r i % portCount ≡ i = omega arith in
-        let w : place r i / portCount ≡ r = omega arith in
-        listed-at flatSize (λ k. counterOf nine (k % portCount) (k / portCount)) (place r i) 0 (omega arith) ∙ rw (q, w))
+    let q : place r i % portCount ≡ i = omega arith in
+    let w : place r i / portCount ≡ r = omega arith in
+    listed-at flatSize (λ k. counterOf nine (k % portCount) (k / portCount)) (place r i) 0 (omega arith) ∙ rw (q, w))
     (λ i j h k.
-        let q : spot i j % 6 ≡ j = omega arith in
-        let w : spot i j / 6 ≡ i = omega arith in
-        listed-at spotsSize (λ k. getD (addressOf nine (k / 6)) (k % 6) 0) (spot i j) 0 (omega arith) ∙ rw (q, w))
+    let q : spot i j % 6 ≡ j = omega arith in
+    let w : spot i j / 6 ≡ i = omega arith in
+    listed-at spotsSize (λ k. getD (addressOf nine (k / 6)) (k % 6) 0) (spot i j) 0 (omega arith) ∙ rw (q, w))
 
 -- THE LAW OF A STORE
 
@@ -232,15 +236,14 @@ record-same flat addresses later last i cs bs =
     (listed-same 6 (λ j. getD last (spot i j) 0) (λ j. getD addresses (spot i j) 0) bs)
 
 -- of counters
-pub counter-stored : (flat addresses : List ℕ) (r i v : ℕ) → length flat ≡ flatSize → r < counterCount → i < portCount
-    → nineOf (set flat (place r i) v) addresses ≡ withCounter (nineOf flat addresses) i r v
+pub counter-stored : StoreIsOne
 unfolding recordAt
 counter-stored flat addresses r i v e h l =
     nine-put flat addresses (set flat (place r i) v) addresses i _ (λ k. here)
     (λ k m n.
-        record-same flat addresses (set flat (place r i) v) addresses k
-        (λ q o. stored-at flat r i v q k e h l m ∙ rw (ne-eqb k i n, and-false (eqb q r)))
-        (λ j o. refl))
+    record-same flat addresses (set flat (place r i) v) addresses k
+    (λ q o. stored-at flat r i v q k e h l m ∙ rw (ne-eqb k i n, and-false (eqb q r)))
+    (λ j o. refl))
   where
     here : recordAt (set flat (place r i) v) addresses i
         ≡ record { counters = set (portOf (nineOf flat addresses) i .counters) r v; address = portOf (nineOf flat addresses) i .address }
@@ -277,9 +280,9 @@ pub port-stored : (i : ℕ) (numbers source flat addresses later last : List ℕ
 port-stored i numbers source flat addresses later last m n e f laid w =
     nine-put flat addresses later last i _
     (λ l.
-        record-is later last i numbers source m n (λ r p. laid .is e r i p l ∙ rw (eq-eqb i i refl)) (λ j p. w .is f i j l p ∙ rw (eq-eqb i i refl)))
+    record-is later last i numbers source m n (λ r p. laid .is e r i p l ∙ rw (eq-eqb i i refl)) (λ j p. w .is f i j l p ∙ rw (eq-eqb i i refl)))
     (λ k o d.
-        record-same flat addresses later last k (λ r p. laid .is e r k p o ∙ rw (ne-eqb k i d)) (λ j p. w .is f k j o p ∙ rw (ne-eqb k i d)))
+    record-same flat addresses later last k (λ r p. laid .is e r k p o ∙ rw (ne-eqb k i d)) (λ j p. w .is f k j o p ∙ rw (ne-eqb k i d)))
 
 -- past the last port
 pub port-unstored : (i : ℕ) (port : Attributes) (flat addresses : List ℕ) → portCount ≤ i → nineOf flat addresses ≡ withPort (nineOf flat addresses) i port
@@ -299,6 +302,9 @@ stretch-ports flat addresses r e h =
 pub stretch-none : (flat : List ℕ) (r : ℕ) → counterCount ≤ r → stretchOf r flat ≡ []
 unfolding stretchOf
 stretch-none flat r h = rw (le-ltb r counterCount h)
+
+pub stretch-is-one : StretchIsOne
+stretch-is-one flat addresses r e = (stretch-ports flat addresses r e, stretch-none flat r)
 
 -- BOUNDS
 

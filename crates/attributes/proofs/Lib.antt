@@ -1,6 +1,7 @@
 -- First the tables, computed; then laws of what is kept of the nine ports, for the crates above, and of the credits.
 pub mod Computing
 pub mod Sheet
+pub mod FlatSheet
 pub mod OctetCheck
 pub mod Listed
 pub mod FlatLaws

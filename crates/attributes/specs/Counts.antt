@@ -4,7 +4,7 @@
 --   Written i source ..      == port i's six bytes are source, and all others as they were
 --   Laid i numbers ..        == port i's thirteen counters are numbers, and all others as they were
 -- Assumes nothing.
-use Prim.Native.Nat.{ℕ, _^_, _<_}
+use Prim.Native.Nat.{ℕ, _<_}
 use mathlib.Core.Path.{_≡_}
 use mathlib.Core.Bool.{cond, _&&_, _||_}
 use mathlib.Core.List.{List}

@@ -9,8 +9,11 @@
 --   Six nine                 == addresses have six bytes
 --   Counting f flat later    == counter R of port i has got f r i
 --   Credited, Readdressed    == what `credit` and `readdress` do to the arrays that they are lent
+--   FlatBack, NineBack       == one to one: from the arrays to the records and back, and the other way
+--   StoreIsOne               == a store at the place of a counter is a store of that counter in that record, and leaves all others
+--   StretchIsOne             == a stretch is one register over the nine ports, and nothing past the last register
 -- Assumes nothing.
-use Prim.Native.Nat.{ℕ, _+_, _*_, _/_, _%_, _^_, _<_}
+use Prim.Native.Nat.{ℕ, _+_, _*_, _/_, _%_, _^_, _≤_, _<_}
 use mathlib.Core.Path.{_≡_}
 use mathlib.Core.Bool.{cond}
 use mathlib.Core.List.{List, []}
@@ -24,7 +27,7 @@ use Rattle.attributes.specs.declared.Nine.{Nine}
 use Rattle.attributes.specs.declared.Flat.{Flat}
 use Rattle.attributes.specs.declared.Met.{Met}
 use Rattle.attributes.specs.declared.Due.{Due}
-use Rattle.attributes.specs.Nine.{counterCount, portOf, counterOf, addressOf, withPort, readdressed}
+use Rattle.attributes.specs.Nine.{counterCount, portOf, counterOf, addressOf, withPort, readdressed, Proper}
 use Rattle.attributes.specs.Credits.{dueOf, creditedAll}
 
 abbrev pub place : ℕ → ℕ → ℕ
@@ -95,3 +98,21 @@ pub record Credited (met : Met) (burst : Burst) (source flat addresses : List �
   pub due : r ≡ dueOf (nineOf flat addresses) met burst source
   pub fine : Fit flat addresses → Fit later last
   pub is : Fit flat addresses → nineOf later last ≡ creditedAll r burst source (nineOf flat addresses)
+
+abbrev pub FlatBack : Type 0
+FlatBack =
+    (flat addresses : List ℕ) → length flat ≡ flatSize → length addresses ≡ spotsSize
+    → (flatOf (nineOf flat addresses) ≡ flat) × (spotsOf (nineOf flat addresses) ≡ addresses)
+
+abbrev pub NineBack : Type 0
+NineBack = (nine : Nine) → Proper nine → Six nine → nineOf (flatOf nine) (spotsOf nine) ≡ nine
+
+abbrev pub StoreIsOne : Type 0
+StoreIsOne =
+    (flat addresses : List ℕ) (r i v : ℕ) → length flat ≡ flatSize → r < counterCount → i < portCount
+    → nineOf (set flat (place r i) v) addresses ≡ withCounter (nineOf flat addresses) i r v
+
+abbrev pub StretchIsOne : Type 0
+StretchIsOne =
+    (flat addresses : List ℕ) (r : ℕ) → length flat ≡ flatSize
+    → (r < counterCount → stretchOf r flat ≡ listed portCount (λ i. counterOf (nineOf flat addresses) i r)) × (counterCount ≤ r → stretchOf r flat ≡ [])

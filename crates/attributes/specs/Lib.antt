@@ -8,3 +8,4 @@ pub mod Octets
 pub mod OctetAnswer
 pub mod Sums
 pub mod Sheet
+pub mod FlatSheet

@@ -305,7 +305,10 @@ fn count(counters: &mut [u32; Flat::COUNTERS], due: Due, burst: Burst)
     let crowd = those(due.collision, due.heard);
     let late = those(Attributes::LATE_ABOVE < burst.c, crowd);
     let long = those(Activity::JABBER_ABOVE < burst.d, due.heard);
-    let mistimed = those(burst.rate_error & (Attributes::MISMATCH_ABOVE < burst.d), own);
+    let mistimed = those(
+        burst.rate_error & (Attributes::MISMATCH_ABOVE < burst.d),
+        own,
+    );
     bump(counters, own, due.class, 1);
     bump(counters, framed, Attributes::READABLE_OCTETS, burst.n);
     bump(counters, crowd, Attributes::COLLISIONS, 1);
@@ -313,7 +316,12 @@ fn count(counters: &mut [u32; Flat::COUNTERS], due: Due, burst: Burst)
     bump(counters, long, Attributes::VERY_LONG_EVENTS, 1);
     bump(counters, mistimed, Attributes::RATE_MISMATCHES, 1);
     bump(counters, due.cut, Attributes::AUTO_PARTITIONS, 1);
-    bump(counters, due.changed & touched, Attributes::ADDRESS_CHANGES, 1);
+    bump(
+        counters,
+        due.changed & touched,
+        Attributes::ADDRESS_CHANGES,
+        1,
+    );
 }
 
 // The port that a readable frame gives its source address to, or none.

@@ -30,16 +30,15 @@ use Rattle.answer.specs.Line.{lineOf}
 use Rattle.answer.specs.Put.{WrittenLine, room, hasRoom, laid, afterLine, withLine}
 use Rattle.answer.proofs.Room as rooms
 use Rattle.attributes.specs.declared.Nine.{Nine}
-use Rattle.attributes.specs.Credits.{creditedAll}
 use Rattle.chip.specs.declared.Core.{Core}
 use Rattle.chip.specs.Chip.{moved, coreReset, withCore}
 use Rattle.access.specs.declared.Acted.{Acted}
 use Rattle.access.specs.Access.{dWriteOf, cReadOf, dReadOf, served}
 use Rattle.access.proofs.Cases.{read-nobody}
-use Rattle.himib.specs.declared.Noted.{Noted}
+use Rattle.himib.specs.declared.Credited.{Credited}
 use Rattle.himib.specs.declared.Stepped.{Stepped}
-use Rattle.himib.specs.Bursts.{notedOn, burstOn}
-use Rattle.himib.specs.Step.{stepOf, taken, afterAccess, addressedAt, finished}
+use Rattle.himib.specs.Bursts.{burstOn}
+use Rattle.himib.specs.Step.{stepOf, taken, afterBurst, afterAccess, addressedAt, finished}
 use Rattle.himib.specs.Step as step
 use Rattle.himib.specs.Runs.{Point, at, happening}
 use Rattle.himib.proofs.HimibLaws.{addressed-nobody}
@@ -135,12 +134,10 @@ module _ {p : Point} {n : ℕ} {input out : List ℕ} {w : Work} {r : Record} {n
 
   -- EACH WAY THROUGH THE LOOP: what the record asked for, and what the functions gave that are called for it
 
-  pub step-burst : {b : Burst} {t : Noted} {nine : Nine} → r .asked ≡ ask.Burst b
-      → t ≡ notedOn (w .point .chip .core) (w .point .chip .attributes) b (r .source)
-      → nine ≡ creditedAll (t .due) b (r .source) (w .point .chip .attributes)
-      → record { chip = record { core = t .core; attributes = nine }; host = w .point .host; answer = t .answer } ≡ taking w r
-  unfolding taken burstOn
-  step-burst {b} e f g = rw (g, f) (asks (ask.Burst b) e)
+  pub step-burst : {b : Burst} {t : Credited} → r .asked ≡ ask.Burst b → t ≡ burstOn (w .point .chip .core) (w .point .chip .attributes) b (r .source)
+      → afterBurst (w .point .host) t ≡ taking w r
+  unfolding taken
+  step-burst {b} e f = ap (afterBurst (w .point .host)) f ∙ asks (ask.Burst b) e
 
   pub step-quiet : {quiet : Quiet} {core : Core} → r .asked ≡ ask.Quiet quiet
       → core ≡ moved (w .point .chip .core) (quieted quiet (w .point .chip .core .repeater)) false false 0

@@ -10,6 +10,7 @@ ghost use Rattle.tally.specs.Tally.{cameTo};
 ghost use Rattle.tally.specs.Blocks.{onward};
 ghost use Rattle.export.specs.Taken.{wrapped};
 use attributes::Attributes;
+use attributes::Flat;
 use chip::FlatChip;
 use host::Host;
 use libc::STDERR_FILENO;
@@ -17,10 +18,10 @@ use libc::STDIN_FILENO;
 use libc::STDOUT_FILENO;
 use tally::Tallied;
 
-// The attributes that are asked for: those from a register on, so many of them. None is what a word asks for that names none.
+// The attributes that are asked for: those from a register on, up to another. A word that names none asks for nothing.
 struct Asked {
-    from: usize,
-    count: usize,
+    first: usize,
+    end: usize,
 }
 
 // After one reading: what the records leave so far, and whether to go on.
@@ -122,9 +123,14 @@ fn line(counters: &[u32], register: usize) {
 
 fn lines(counters: &[u32], asked: Asked) {
     say(b"attribute,tp0,tp1,tp2,tp3,tp4,tp5,tp6,tp7,aui\n");
-    for i in 0..asked.count {
-        line(counters, asked.from + i);
+    for register in asked.first..asked.end {
+        line(counters, register);
     }
+}
+
+// The lines of counters that are kept by value.
+fn say_lines(counters: [u32; Flat::COUNTERS], asked: Asked) {
+    lines(&counters, asked);
 }
 
 // How many records were turned away, if any.
@@ -159,7 +165,7 @@ fn run_from(chip: FlatChip, asked: Asked) {
     tell_refused(done.refused);
     let left = done.flat;
     let counters = left.counters;
-    lines(&counters, asked);
+    say_lines(counters, asked);
 }
 
 // Runs with the counters and addresses of the start file that the second argument names.
@@ -178,60 +184,86 @@ fn run_with(asked: Asked) {
         run_from(started.chip, asked);
         return;
     }
-    io::write_all(STDERR_FILENO, b"export: the start file does not have 530 bytes\n");
+    io::write_all(
+        STDERR_FILENO,
+        b"export: the start file does not have 530 bytes\n",
+    );
 }
 
 fn one(register: u8) -> Asked {
+    let first = register as usize;
     Asked {
-        from: register as usize,
-        count: 1,
+        first: first,
+        end: first + 1,
     }
 }
 
-fn none() -> Asked {
-    Asked {
-        from: 0,
-        count: 0,
+fn nothing() -> Asked {
+    Asked { first: 0, end: 0 }
+}
+
+// What a digit asks for.
+fn asked_by_one(digit: u8) -> Asked {
+    if digit < b'0' {
+        return nothing();
+    }
+    if b'9' < digit {
+        return nothing();
+    }
+    one(digit - b'0')
+}
+
+// What two ask for.
+fn asked_by_two(ten: u8, digit: u8) -> Asked {
+    if ten == b'1' {
+        match digit {
+            b'0' => one(10),
+            b'1' => one(11),
+            b'2' => one(12),
+            _ => nothing(),
+        }
+    } else {
+        nothing()
     }
 }
 
 // What a word asks for: a register from 0 to 12 in decimal, or all.
 fn asked_by(word: &[u8]) -> Asked {
     if word.len() == 1 {
-        if b'0' <= word[0] && word[0] <= b'9' {
-            return one(word[0] - b'0');
-        }
-        return none();
+        return asked_by_one(word[0]);
     }
     if word.len() == 2 {
-        if word[0] == b'1' && b'0' <= word[1] && word[1] <= b'2' {
-            return one(10 + (word[1] - b'0'));
-        }
-        return none();
+        return asked_by_two(word[0], word[1]);
     }
     if word.len() == 3 {
-        if word[0] == b'a' && word[1] == b'l' && word[2] == b'l' {
+        if (word[0] == b'a') & (word[1] == b'l') & (word[2] == b'l') {
             return Asked {
-                from: 0,
-                count: Attributes::COUNT,
+                first: 0,
+                end: Attributes::COUNT,
             };
         }
-        return none();
+        return nothing();
     }
-    none()
+    nothing()
 }
 
 fn main() {
     let words = os::arg_count();
-    if words < 2 || 3 < words {
-        io::write_all(STDERR_FILENO, b"export: expected an attribute, and behind it perhaps the name of a start file\n");
+    if (words < 2) | (3 < words) {
+        io::write_all(
+            STDERR_FILENO,
+            b"export: expected an attribute, and behind it perhaps the name of a start file\n",
+        );
         return;
     }
     let mut word = io::buffer();
     let n = os::arg(1, &mut word);
     let asked = asked_by(&word[..n]);
-    if asked.count == 0 {
-        io::write_all(STDERR_FILENO, b"export: an attribute is the number of its register, 0 to 12, or all\n");
+    if asked.end == 0 {
+        io::write_all(
+            STDERR_FILENO,
+            b"export: an attribute is the number of its register, 0 to 12, or all\n",
+        );
         return;
     }
     if words == 2 {

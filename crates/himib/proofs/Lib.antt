@@ -3,6 +3,7 @@ pub mod Computing
 pub mod Sheet
 pub mod Told
 pub mod HimibLaws
+pub mod FlatSheet
 pub mod FlatLaws
 pub mod StepLaws
 pub mod Runs

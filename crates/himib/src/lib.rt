@@ -155,7 +155,18 @@ fn follow_access(
     }
 }
 
-// or what a record asks for: the counters and addresses are lent.
+// what is turned away: nothing changes,
+fn turn_away(core: Core, h: Host, number: u8) -> Followed
+    ensures { λ r. ⌜ r ≡ record { core = core; host = h; answer = Answer.Refused number } ⌝ }
+{
+    Followed {
+        core: core,
+        host: h,
+        answer: Answer::Refused(number),
+    }
+}
+
+// or whatever a record asks for: the counters and addresses are lent.
 pub fn follow(
     core: Core,
     counters: &mut [u32; Flat::COUNTERS],
@@ -179,11 +190,7 @@ pub fn follow(
             host: Host::power_up(),
             answer: Answer::Done,
         },
-        Asked::Refused(number) => Followed {
-            core: core,
-            host: h,
-            answer: Answer::Refused(number),
-        },
+        Asked::Refused(number) => turn_away(core, h, number),
     }
 }
 

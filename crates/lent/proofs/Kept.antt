@@ -13,8 +13,11 @@ use Rattle.host.specs.declared.Host.{Host}
 use Rattle.answer.specs.declared.Answer.{Answer}
 use Rattle.answer.specs.declared.Answer.the-variants.{Refused}
 use Rattle.attributes.specs.declared.Nine.{Nine}
+use Rattle.attributes.specs.Flat.{flatSize, spotsSize, listed, recordAt, nineOf}
 use Rattle.chip.specs.declared.Chip.{Chip}
+use Rattle.chip.specs.declared.FlatChip.{FlatChip}
 use Rattle.chip.specs.Chip.{chipUp}
+use Rattle.chip.specs.Flat.{chipOf}
 use Rattle.access.specs.declared.Acted.{Acted}
 use Rattle.access.specs.Access.{selectedBy}
 use Rattle.access.specs.Refusals.{rowsOf, isRefused, Left}
@@ -35,6 +38,10 @@ half = record { page = 31; register = 14; bytes = 1 ∷ 2 ∷ 3 ∷ 0 ∷ 0 ∷ 
 
 abbrev up : Chip
 up = chipUp (allAt 0)
+
+-- the same chip as it is kept
+abbrev flatUp : FlatChip
+flatUp = record { core = up .core; flat = record { counters = replicate flatSize 0; addresses = replicate spotsSize 0 } }
 
 module _ (c : Chip) (h : Host) (k : ℕ) where
   abbrev Keeps : Stepped → Type 0
@@ -69,15 +76,15 @@ selecting-nothing = (refl, refl)
 pub kept : (q : Record) (c : Chip) (h : Host) (k : ℕ) → requested q c h .answer ≡ Refused k → requested q c h ≡ turned c h k
 kept q c h k e = takes c h k (q .asked) (q .source) e
 
--- So does a function over the lent record: the record that it leaves is the one that it was lent.
-left-half : together (record { chip = up; answer = Refused 7 }) half ≡ requested (cWrite 0x40) up half
-unfolding computing
+-- So does a function over the lent record: the record that it leaves is the one that it was lent, and its chip stands for the one that it was given.
+left-half : together (record { chip = flatUp; answer = Refused 7 }) half ≡ requested (cWrite 0x40) up half
+unfolding computing listed recordAt nineOf
 left-half = refl
 
-pub lent-kept : (q : Record) (c : Chip) (h : Host) (r : Rest) (z : Host) (k : ℕ) → together r z ≡ requested q c h → r .answer ≡ Refused k
-    → (r .chip ≡ c) × (z ≡ h)
+pub lent-kept : (q : Record) (c : FlatChip) (h : Host) (r : Rest) (z : Host) (k : ℕ) → together r z ≡ requested q (chipOf c) h → r .answer ≡ Refused k
+    → (chipOf (r .chip) ≡ chipOf c) × (z ≡ h)
 lent-kept q c h r z k e d =
-    let t : together r z ≡ turned c h k = e ∙ kept q c h k (sym (ap (λ (s : Stepped). s .answer) e) ∙ d) in
+    let t : together r z ≡ turned (chipOf c) h k = e ∙ kept q (chipOf c) h k (sym (ap (λ (s : Stepped). s .answer) e) ∙ d) in
     (ap (λ (s : Stepped). s .chip) t, ap (λ (s : Stepped). s .host) t)
 
 -- The same of a whole record, of any bytes: one of 31 bytes is turned away with 9.

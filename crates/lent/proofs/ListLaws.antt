@@ -19,6 +19,7 @@ use Rattle.answer.specs.declared.Answer.{Answer}
 use Rattle.host.specs.declared.Host.{Host}
 use Rattle.host.specs.Sequence.{powerUp}
 use Rattle.chip.specs.declared.Chip.{Chip}
+use Rattle.chip.specs.Flat.{chipOf}
 use Rattle.himib.specs.declared.Stepped.{Stepped}
 use Rattle.himib.specs.Step.{stepOf}
 use Rattle.himib.specs.Runs.{at, happening, historyOf, runOf, history, run, answersIn}
@@ -88,13 +89,13 @@ module _ (c₀ : Chip) (bs out₀ : List ℕ) where
 
   module _ (i : ℕ) (c : Chip) (h : Host) (out : List ℕ) (g : Going i c h out) where
     pub going-next : i < pieces (length bs) → (r : Rest) (z : Host) (out′ : List ℕ) → together r z ≡ requested (recordOf (piece bs i)) c h
-        → out′ ≡ laid out i (r .answer) → Going (i + 1) (r .chip) z out′
+        → out′ ≡ laid out i (r .answer) → Going (i + 1) (chipOf (r .chip)) z out′
     unfolding happening historyOf runOf laidAll stepOf
     going-next l r z out′ e d = record {
       chips = ap (λ (s : Stepped). run (at (s .chip) (s .host)) (left bs (i + 1)) .chip) e ∙ sym
           (ap (λ (ps : List (List ℕ)). run (at c h) ps .chip) (left-next bs i l)) ∙ g .chips;
       answers =
-          ap (λ (ys : List ℕ). laidAll ys (i + 1) (answersIn (history (at (r .chip) z) (left bs (i + 1))))) d
+          ap (λ (ys : List ℕ). laidAll ys (i + 1) (answersIn (history (at (chipOf (r .chip)) z) (left bs (i + 1))))) d
           ∙ ap (λ (s : Stepped). laidAll (laid out i (s .answer)) (i + 1) (answersIn (history (at (s .chip) (s .host)) (left bs (i + 1))))) e
           ∙ sym (ap (λ (ps : List (List ℕ)). laidAll out i (answersIn (history (at c h) ps))) (left-next bs i l)) ∙ g .answers;
     }

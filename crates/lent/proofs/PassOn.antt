@@ -32,8 +32,9 @@ use denote.Triple.Spec.{tripleOf}
 use denote.Triple.Clauses.{ensured, lasts}
 use Rattle.host.specs.declared.Host.{Host}
 use Rattle.host.proofs.Host as Hst
-use Rattle.chip.specs.declared.Chip.{Chip}
-use Rattle.chip.proofs.Chip as Chp
+use Rattle.chip.specs.declared.FlatChip.{FlatChip}
+use Rattle.chip.specs.Flat.{chipOf}
+use Rattle.chip.proofs.FlatChip as Chp
 use Rattle.record.specs.declared.Record.{Record}
 use Rattle.record.proofs.Record as Rqs
 use Rattle.lent.specs.declared.Rest.{Rest}
@@ -54,7 +55,7 @@ passed-on =
 
 -- a call with the record h at (b, o), lent for κ under the name γ, with the chip c, and with the request r, whose machine value is v
 module _ {M : Type 1} (𝓤 : URA M) (H : Heap 𝓤) (A : Atoms 𝓤) (W : Given 𝓤 H A) (at-mem : Memory → SProp 𝓤) (run : Routine → Fun 𝓤)
-    (κ : Lft) (q : Share) (b o : ℕ) (γ : GName) (h : Host) (c : Chip) (gc : Is Chp.the-row c (chipVal c ∷ []))
+    (κ : Lft) (q : Share) (b o : ℕ) (γ : GName) (h : Host) (c : FlatChip) (gc : Is Chp.the-row c (chipVal c ∷ []))
     (r : Record) (v : Val) (gr : Is Rqs.the-row r (v ∷ [])) where
   abbrev pub to-take : Take 𝓤 H A at-mem run .Ghost
   to-take = (((κ, tt), (q, tt), tt, (lentAt b o γ h, (c, (r, tt))), (vptr b o ∷ [], (chipVal c ∷ [], (v ∷ [], tt)))), tt)
@@ -67,7 +68,7 @@ module _ {M : Type 1} (𝓤 : URA M) (H : Heap 𝓤) (A : Atoms 𝓤) (W : Given
       move ! (2 ∷ 0 ∷ []) $ fjoin ! $ move ! (1 ∷ 0 ∷ []) $ join ! $ frame ! $ done !
 
   abbrev pub Said : Rest → Host → Type 0
-  Said a z = together a z ≡ requested r c h
+  Said a z = together a z ≡ requested r (chipOf c) h
 
   abbrev Ensured : Rest → SProp 𝓤
   Ensured a = ensured 𝓤 H A take.ended (take.clauses 𝓤 H A at-mem run) (κ, tt) (lentAt b o γ h, (c, (r, tt))) tt a

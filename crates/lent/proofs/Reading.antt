@@ -38,9 +38,10 @@ use denote.Triple.Walked.{says, Stays, gave-ref, stay-dropped, walkOf, AllGo, go
 use denote.Exit.{yes}
 use Rattle.host.specs.declared.Host.{Host}
 use Rattle.host.proofs.Host as Hst
-use Rattle.chip.specs.declared.Chip.{Chip}
-use Rattle.chip.proofs.Chip as Chp
-use Rattle.chip.proofs.Chip.Laws as Chp′
+use Rattle.chip.specs.declared.FlatChip.{FlatChip}
+use Rattle.chip.specs.Flat.{chipOf}
+use Rattle.chip.proofs.FlatChip as Chp
+use Rattle.chip.proofs.FlatChip.Laws as Chp′
 use Rattle.record.specs.declared.Access.{Access}
 use Rattle.record.specs.declared.Record.{Record}
 use Rattle.record.proofs.Access as Acc
@@ -79,7 +80,7 @@ module _ {M : Type 1} (𝓤 : URA M) where
   reading a κs y = record {
     ghost = Unit {0};
     requires = λ _. emp 𝓤;
-    ensures = λ _ r e. fact 𝓤 (together r (e .0 .now) ≡ requested (requestFor a) (y .1 .0) (y .0 .now));
+    ensures = λ _ r e. fact 𝓤 (together r (e .0 .now) ≡ requested (requestFor a) (chipOf (y .1 .0)) (y .0 .now));
   }
 
 module _ {M : Type 1} (𝓤 : URA M) (H : Heap 𝓤) (A : Atoms 𝓤) (at-mem : Memory → SProp 𝓤) (run : Routine → Fun 𝓤) where
@@ -91,8 +92,8 @@ module _ {M : Type 1} (𝓤 : URA M) (H : Heap 𝓤) (A : Atoms 𝓤) (at-mem : 
 
 module _ {M : Type 1} (𝓤 : URA M) (H : Heap 𝓤) (A : Atoms 𝓤) (W : Given 𝓤 H A) (at-mem : Memory → SProp 𝓤) (run : Routine → Fun 𝓤)
     (a : Access) (k : ℕ) (small : T (ltb k (2 ^ 8))) (is-tag : Is Acc.the-row a (tagged k ∷ []))
-    (κ : Lft) (q : Share) (b o : ℕ) (γ : GName) (h : Host) (c : Chip) (gc : Is Chp.the-row c (chipVal c ∷ [])) where
-  abbrev x : RefT Host × (Chip × Unit {0})
+    (κ : Lft) (q : Share) (b o : ℕ) (γ : GName) (h : Host) (c : FlatChip) (gc : Is Chp.the-row c (chipVal c ∷ [])) where
+  abbrev x : RefT Host × (FlatChip × Unit {0})
   x = (lentAt b o γ h, (c, tt))
 
   abbrev at : List Val × (List Val × Unit {0})
@@ -101,7 +102,7 @@ module _ {M : Type 1} (𝓤 : URA M) (H : Heap 𝓤) (A : Atoms 𝓤) (W : Given
   abbrev Post : Val → SProp 𝓤
   Post = walkOf 𝓤 H A f.ended stayed (reading 𝓤 a) .post (((κ, tt), (q, tt), tt, x, at), tt)
 
-  exits : (r : Rest) (w : Val) (z : Host) → Is Rst.the-row r (w ∷ []) → together r z ≡ requested (requestFor a) c h
+  exits : (r : Rest) (w : Val) (z : Host) → Is Rst.the-row r (w ∷ []) → together r z ≡ requested (requestFor a) (chipOf c) h
       → ent 𝓤 (⋆ 𝓤 H A (‵ (flft κ q) ∷ ‵ (fres γ (Hst.the-row .coded .code z)) ∷ ‵ ftrue ∷ [])) (Post w)
   exits r w z is e =
       qed W (‵ (flft κ q) ∷ ‵ (fres γ (Hst.the-row .coded .code z)) ∷ ‵ ftrue ∷ []) ∵
@@ -137,7 +138,7 @@ module _ {M : Type 1} (𝓤 : URA M) (H : Heap 𝓤) (A : Atoms 𝓤) (W : Given
         move ! (12 ∷ []) $ split ! $ move ! (14 ∷ []) $ fsplit ! $
         keep ! (2 ∷ 0 ∷ 3 ∷ 4 ∷ 5 ∷ 6 ∷ 7 ∷ 8 ∷ 9 ∷ 10 ∷ 11 ∷ 12 ∷ 13 ∷ 14 ∷ 15 ∷ []) $
         passes-on 𝓤 H A W at-mem run κ q b o γ h c gc r v is C Λ fm known Acc′.mir (tagged k) (‵ ftrue) Post l₀ l₁ l₂ l₃ l₄ l₅
-        (λ s w z ia e′. exits s w z ia (e′ ∙ ap (λ (r′ : Record). requested r′ c h) e))))))))))
+        (λ s w z ia e′. exits s w z ia (e′ ∙ ap (λ (r′ : Record). requested r′ (chipOf c) h) e))))))))))
 
 module _ {M : Type 1} (𝓤 : URA M) (H : Heap 𝓤) (A : Atoms 𝓤) (W : Given 𝓤 H A) (at-mem : Memory → SProp 𝓤) (run : Routine → Fun 𝓤)
     (a : Access) (k : ℕ) (small : T (ltb k (2 ^ 8))) (is-tag : Is Acc.the-row a (tagged k ∷ [])) where

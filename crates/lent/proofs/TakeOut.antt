@@ -101,13 +101,13 @@ module _ {M : Type 1} (𝓤 : URA M) (H : Heap 𝓤) (A : Atoms 𝓤) (W : Given
         move ! (7 ∷ 8 ∷ []) $ free1 ! $ move ! (5 ∷ 6 ∷ []) $ free1 ! $ move ! (3 ∷ 4 ∷ []) $ free1 ! $ free0 ! $ by ! ends
 
   -- what is called gives some s of S back, which has parts and of which φ holds
-  module _ (S : RattleType) (host : S .Denot → Host) (chipOf hostOf answerOf : S .Denot → Val)
+  module _ (S : RattleType) (host : S .Denot → Host) (chipPart hostPart answerPart : S .Denot → Val)
       (E : S .Denot → SProp 𝓤) (φ : S .Denot → Type 0) (said : (s : S .Denot) → ent 𝓤 (E s) (fact 𝓤 (φ s)))
       (typed : (s : S .Denot) (v : Val) → Is S s (v ∷ []) → T (hasTy stepTy v) × WT v)
-      (parts : (s : S .Denot) (v : Val) → Is S s (v ∷ []) → v ≡ made (chipOf s) (hostOf s) (answerOf s))
-      (host-is : (s : S .Denot) (v : Val) → Is S s (v ∷ []) → Is Hst.the-row (host s) (hostOf s ∷ []))
-      (fits : (s : S .Denot) (v : Val) → Is S s (v ∷ []) → T (hasTy restTy (left (chipOf s) (answerOf s))) × WT (left (chipOf s) (answerOf s)))
-      (exits : (s : S .Denot) (v : Val) → φ s → Is S s (v ∷ []) → ent 𝓤 (Closed (host s)) (Post (left (chipOf s) (answerOf s)))) where
+      (parts : (s : S .Denot) (v : Val) → Is S s (v ∷ []) → v ≡ made (chipPart s) (hostPart s) (answerPart s))
+      (host-is : (s : S .Denot) (v : Val) → Is S s (v ∷ []) → Is Hst.the-row (host s) (hostPart s ∷ []))
+      (fits : (s : S .Denot) (v : Val) → Is S s (v ∷ []) → T (hasTy restTy (left (chipPart s) (answerPart s))) × WT (left (chipPart s) (answerPart s)))
+      (exits : (s : S .Denot) (v : Val) → φ s → Is S s (v ∷ []) → ent 𝓤 (Closed (host s)) (Post (left (chipPart s) (answerPart s)))) where
     abbrev pub Gives : Val → SProp 𝓤
     Gives v = H .⇛ (ex 𝓤 (λ (s : S .Denot). sep 𝓤 (sep 𝓤 (mean 𝓤 H A (‵ ftrue)) (sem 𝓤 H A (S .own s (v ∷ [])))) (E s)))
 
@@ -137,4 +137,4 @@ module _ {M : Type 1} (𝓤 : URA M) (H : Heap 𝓤) (A : Atoms 𝓤) (W : Given
         answered W (‵ ftrue) S E φ said v tt ! (λ s e is. drop ! $
         land ! (from ! (stop !)) (init ! 5 refl (typed s v is)) $
         rewrite ! 5 (λ (u : Val). ‵ (fat fullShare stepTy l₅ 0 u)) (parts s v is) refl $
-        puts-back l₀ l₁ l₂ l₃ l₄ l₅ (host s) (hostVal h) (chipOf s) (hostOf s) (answerOf s) (fits s v is) (host-is s v is) (exits s v e is)))))))))))
+        puts-back l₀ l₁ l₂ l₃ l₄ l₅ (host s) (hostVal h) (chipPart s) (hostPart s) (answerPart s) (fits s v is) (host-is s v is) (exits s v e is)))))))))))

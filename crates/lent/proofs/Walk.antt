@@ -36,9 +36,9 @@ use Rattle.host.proofs.Host.Laws as Hst′
 use Rattle.answer.specs.declared.Answer.{Answer}
 use Rattle.answer.proofs.Answer as Ans
 use Rattle.answer.proofs.Answer.Laws as Ans′
-use Rattle.chip.specs.declared.Chip.{Chip}
-use Rattle.chip.proofs.Chip as Chp
-use Rattle.chip.proofs.Chip.Laws as Chp′
+use Rattle.chip.specs.declared.FlatChip.{FlatChip}
+use Rattle.chip.proofs.FlatChip as Chp
+use Rattle.chip.proofs.FlatChip.Laws as Chp′
 use Rattle.record.specs.declared.Record.{Record}
 use Rattle.record.proofs.Record as Rqs
 use Rattle.record.proofs.Record.Laws as Rqs′
@@ -50,7 +50,7 @@ use Rattle.lent.proofs.Rest.Laws as Rst′
 abbrev pub hostVal : Host → Val
 hostVal = LL.val Hst.the-type Hst′.the-laws
 
-abbrev pub chipVal : Chip → Val
+abbrev pub chipVal : FlatChip → Val
 chipVal = LL.val Chp.the-type Chp′.the-laws
 
 abbrev pub requestVal : Record → Val
@@ -88,7 +88,7 @@ module _ {M : Type 1} {𝓤 : URA M} {H : Heap 𝓤} {A : Atoms 𝓤} (W : Given
   pub hostFits : (h : Host) (v : Val) → Is Hst.the-row h (v ∷ []) → T (hasTy hostTy v) × WT v
   hostFits h v is = LL.lawful Hst.the-type Hst′.the-laws 𝓤 H A W .typed h _ is .0
 
-  pub chipFits : (c : Chip) (v : Val) → Is Chp.the-row c (v ∷ []) → T (hasTy chipTy v) × WT v
+  pub chipFits : (c : FlatChip) (v : Val) → Is Chp.the-row c (v ∷ []) → T (hasTy chipTy v) × WT v
   chipFits c v is = LL.lawful Chp.the-type Chp′.the-laws 𝓤 H A W .typed c _ is .0
 
   pub requestFits : (r : Record) (v : Val) → Is Rqs.the-row r (v ∷ []) → T (hasTy requestTy v) × WT v
@@ -101,7 +101,7 @@ module _ {M : Type 1} {𝓤 : URA M} {H : Heap 𝓤} {A : Atoms 𝓤} (W : Given
     pub hostOwned : K → (h : Host) (v : Val) → Is Hst.the-row h (v ∷ []) → Step K W (‵ (Hst.the-row .own h (v ∷ [])) ∷ Γ) G Γ G
     hostOwned t h v is = owned t Hst.the-row (Is Hst.the-row) (LL.makes Hst.the-type Hst′.the-plain 𝓤 H A) h _ is
 
-    pub chipOwned : K → (c : Chip) (v : Val) → Is Chp.the-row c (v ∷ []) → Step K W (‵ (Chp.the-row .own c (v ∷ [])) ∷ Γ) G Γ G
+    pub chipOwned : K → (c : FlatChip) (v : Val) → Is Chp.the-row c (v ∷ []) → Step K W (‵ (Chp.the-row .own c (v ∷ [])) ∷ Γ) G Γ G
     chipOwned t c v is = owned t Chp.the-row (Is Chp.the-row) (LL.makes Chp.the-type Chp′.the-plain 𝓤 H A) c _ is
 
     pub requestOwned : K → (r : Record) (v : Val) → Is Rqs.the-row r (v ∷ []) → Step K W (‵ (Rqs.the-row .own r (v ∷ [])) ∷ Γ) G Γ G

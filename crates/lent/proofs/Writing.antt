@@ -37,9 +37,10 @@ use denote.Triple.Walked.{says, Stays, gave-ref, stay-dropped, walkOf, AllGo, go
 use denote.Exit.{yes}
 use Rattle.host.specs.declared.Host.{Host}
 use Rattle.host.proofs.Host as Hst
-use Rattle.chip.specs.declared.Chip.{Chip}
-use Rattle.chip.proofs.Chip as Chp
-use Rattle.chip.proofs.Chip.Laws as Chp′
+use Rattle.chip.specs.declared.FlatChip.{FlatChip}
+use Rattle.chip.specs.Flat.{chipOf}
+use Rattle.chip.proofs.FlatChip as Chp
+use Rattle.chip.proofs.FlatChip.Laws as Chp′
 use Rattle.record.specs.declared.Record.{Record}
 use Rattle.record.proofs.Record as Rqs
 use Rattle.lent.specs.declared.Rest.{Rest}
@@ -73,7 +74,7 @@ module _ {M : Type 1} (𝓤 : URA M) where
   writing Q κs a = record {
     ghost = Unit {0};
     requires = λ _. emp 𝓤;
-    ensures = λ _ r e. fact 𝓤 (together r (e .0 .now) ≡ requested (Q (a .1 .1 .0)) (a .1 .0) (a .0 .now));
+    ensures = λ _ r e. fact 𝓤 (together r (e .0 .now) ≡ requested (Q (a .1 .1 .0)) (chipOf (a .1 .0)) (a .0 .now));
   }
 
 module _ {M : Type 1} (𝓤 : URA M) (H : Heap 𝓤) (A : Atoms 𝓤) (Q : ℕ → Record) where
@@ -84,8 +85,8 @@ module _ {M : Type 1} (𝓤 : URA M) (H : Heap 𝓤) (A : Atoms 𝓤) (Q : ℕ �
   said n r = exE 𝓤 _ (λ ws. snd∗ 𝓤 (sem 𝓤 H A (lasts maker.ended tt (n, tt) ws)) (fact 𝓤 (r ≡ Q n)))
 
 module _ {M : Type 1} (𝓤 : URA M) (H : Heap 𝓤) (A : Atoms 𝓤) (W : Given 𝓤 H A) (at-mem : Memory → SProp 𝓤) (run : Routine → Fun 𝓤) (Q : ℕ → Record)
-    (κ : Lft) (q : Share) (b o : ℕ) (γ : GName) (h : Host) (c : Chip) (n : ℕ) (gc : Is Chp.the-row c (chipVal c ∷ [])) (fits : n < 2 ^ 8) where
-  abbrev x : RefT Host × (Chip × (ℕ × Unit {0}))
+    (κ : Lft) (q : Share) (b o : ℕ) (γ : GName) (h : Host) (c : FlatChip) (n : ℕ) (gc : Is Chp.the-row c (chipVal c ∷ [])) (fits : n < 2 ^ 8) where
+  abbrev x : RefT Host × (FlatChip × (ℕ × Unit {0}))
   x = (lentAt b o γ h, (c, (n, tt)))
 
   abbrev at : List Val × (List Val × (List Val × Unit {0}))
@@ -94,7 +95,7 @@ module _ {M : Type 1} (𝓤 : URA M) (H : Heap 𝓤) (A : Atoms 𝓤) (W : Given
   abbrev Post : Val → SProp 𝓤
   Post = walkOf 𝓤 H A f.ended stayed (writing 𝓤 Q) .post (((κ, tt), (q, tt), tt, x, at), tt)
 
-  exits : (a : Rest) (w : Val) (z : Host) → Is Rst.the-row a (w ∷ []) → together a z ≡ requested (Q n) c h
+  exits : (a : Rest) (w : Val) (z : Host) → Is Rst.the-row a (w ∷ []) → together a z ≡ requested (Q n) (chipOf c) h
       → ent 𝓤 (⋆ 𝓤 H A (‵ (flft κ q) ∷ ‵ (fres γ (Hst.the-row .coded .code z)) ∷ ‵ ftrue ∷ [])) (Post w)
   exits a w z is e =
       qed W (‵ (flft κ q) ∷ ‵ (fres γ (Hst.the-row .coded .code z)) ∷ ‵ ftrue ∷ []) ∵
@@ -127,7 +128,7 @@ module _ {M : Type 1} (𝓤 : URA M) (H : Heap 𝓤) (A : Atoms 𝓤) (W : Given
         move ! (12 ∷ []) $ split ! $ move ! (14 ∷ []) $ fsplit ! $
         keep ! (2 ∷ 0 ∷ 3 ∷ 4 ∷ 5 ∷ 6 ∷ 7 ∷ 8 ∷ 9 ∷ 10 ∷ 11 ∷ 12 ∷ 13 ∷ 14 ∷ 15 ∷ []) $
         passes-on 𝓤 H A W at-mem run κ q b o γ h c gc r v is C Λ fm known (tyInt w8) (vint w8 n) (‵ ftrue) Post l₀ l₁ l₂ l₃ l₄ l₅
-        (λ a w z ia e′. exits a w z ia (e′ ∙ ap (λ (s : Record). requested s c h) e))))))))))
+        (λ a w z ia e′. exits a w z ia (e′ ∙ ap (λ (s : Record). requested s (chipOf c) h) e))))))))))
 
 module _ {M : Type 1} (𝓤 : URA M) (H : Heap 𝓤) (A : Atoms 𝓤) (W : Given 𝓤 H A) (at-mem : Memory → SProp 𝓤) (run : Routine → Fun 𝓤) (Q : ℕ
     → Record) (g : Name) where

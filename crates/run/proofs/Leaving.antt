@@ -14,6 +14,8 @@ use Rattle.answer.specs.Text.{ascii}
 use Rattle.answer.specs.Numerals.{numeral, decimal}
 use Rattle.answer.specs.Line.{saidOf, tailOf, lineOf}
 use Rattle.answer.specs.Put.{hasRoom, laid, afterLine, withLine}
+use Rattle.ports.specs.Each.{each}
+use Rattle.attributes.specs.Flat.{flatSize, spotsSize}
 use Rattle.himib.specs.Runs.{happening, start, allAt}
 use Rattle.himib.proofs.Computing.{computing}
 use Rattle.block.specs.Block.{Work, Answered, afterRecord, worked, blockOf}
@@ -33,12 +35,19 @@ abbrev done : Work
 done = blockOf (start (allAt 0)) 1 input lines
 
 abbrev at-first : State
-at-first = record { chip = start (allAt 0) .chip; host = start (allAt 0) .host; number = 1 }
+at-first = record {
+  chip = record { core = start (allAt 0) .chip .core; flat = record { counters = replicate flatSize 0; addresses = replicate spotsSize 0 } };
+  host = start (allAt 0) .host;
+  number = 1;
+}
+
+-- a tick moves the core, and no counter
+abbrev after : State
+after = record { chip = record { core = done .point .chip .core; flat = at-first .chip .flat }; host = done .point .host; number = 2 }
 
 -- one record is taken and gets its line, and the three bytes that are left stand at the front, whatever is behind them
-three-left : Kept at-first input lines (record { state = record { chip = done .point .chip; host = done .point .host; number = 2 }; left = 3; used = 5 })
-    (7 ∷ 8 ∷ 9 ∷ replicate 7 0) (ascii "1 ok\n" ++ replicate 59 46)
-unfolding computing happening blockOf worked afterRecord hasRoom laid afterLine withLine lineOf tailOf saidOf numeral decimal
+three-left : Kept at-first input lines (record { state = after; left = 3; used = 5 }) (7 ∷ 8 ∷ 9 ∷ replicate 7 0) (ascii "1 ok\n" ++ replicate 59 46)
+unfolding computing each happening blockOf worked afterRecord hasRoom laid afterLine withLine lineOf tailOf saidOf numeral decimal
 three-left = record { is = refl; kept = refl; low = lit< tt; fits = omega arith }
 
 -- IN GENERAL

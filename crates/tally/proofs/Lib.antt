@@ -1,3 +1,4 @@
--- Laws of a tally, and what blocks of input come to together.
+-- Laws of a tally, what blocks of input come to together, and that there is one outcome.
 pub mod TallyLaws
 pub mod Blocks
+pub mod Outcome

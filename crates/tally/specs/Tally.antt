@@ -7,8 +7,10 @@
 --   tallyOf p bs      == through all records of the bytes bs, a short last piece being one
 --   standing ..       == a run stands at this core, these counters and addresses as they are kept, and this host's record
 --   cameTo t          == the tally that `take_all` returns
+--   OneTally          == two results that `take_all` may give for the same arguments are one; their arrays have as many places as their type says
 -- Assumes nothing.
 use Prim.Native.Nat.{ℕ, _+_, _-_}
+use mathlib.Core.Path.{_≡_}
 use mathlib.Core.Bool.{cond}
 use mathlib.Core.List.{List, [], _∷_}
 use lib.Dec.{ltb}
@@ -16,7 +18,8 @@ use Rattle.record.specs.Record.{recordLength}
 use Rattle.host.specs.declared.Host.{Host}
 use Rattle.answer.specs.declared.Answer.{Answer}
 use Rattle.chip.specs.declared.Core.{Core}
-use Rattle.chip.specs.Flat.{holding}
+use Rattle.chip.specs.declared.FlatChip.{FlatChip}
+use Rattle.chip.specs.Flat.{holding, Sized}
 use Rattle.himib.specs.Runs.{Point, at, history, run, answersIn, accepted}
 use Rattle.lent.specs.Lists.{cut}
 use Rattle.tally.specs.declared.Tallied.{Tallied}
@@ -46,3 +49,11 @@ standing core flat addresses host = at (holding core flat addresses) host
 
 abbrev pub cameTo : Tallied → Tally
 cameTo t = record { point = standing (t .core) (t .flat .counters) (t .flat .addresses) (t .host); refused = t .refused }
+
+-- the chip that is left, as it is kept
+abbrev pub chipIn : Tallied → FlatChip
+chipIn t = record { core = t .core; flat = t .flat }
+
+abbrev pub OneTally : Type 0
+OneTally =
+    (p : Point) (bs : List ℕ) (r s : Tallied) → Sized (chipIn r) → Sized (chipIn s) → cameTo r ≡ tallyOf p bs → cameTo s ≡ tallyOf p bs → r ≡ s

@@ -7,29 +7,34 @@ use Prim.Native.Nat.{ℕ, _+_, _-_, _<_}
 use mathlib.Core.Path.{_≡_, refl, sym, ap, ap₂, _∙_}
 use mathlib.Core.List.{List, [], _∷_, _++_}
 use native.Mathlib.Omega.{arith}
-use lib.ListN.{length, length-append, take}
+use lib.ListN.{length, length-append}
 use lib.Seq.{take-at}
-use Rattle.ports.specs.Sets.{portCount, has, gather}
+use Rattle.ports.specs.Sets.{portCount, has}
 use Rattle.ports.proofs.Sets.{has-gather}
 use Rattle.host.specs.declared.Host.{Host}
-use Rattle.answer.specs.declared.Answer.{Answer}
 use Rattle.answer.specs.declared.Answer.the-variants.{Value}
 use Rattle.answer.specs.Line.{newline, lineOf}
 use Rattle.attributes.specs.declared.Nine.{Nine}
 use Rattle.attributes.specs.Nine.{counterOf}
 use Rattle.chip.specs.declared.Core.{Core}
+use Rattle.chip.specs.declared.FlatChip.{FlatChip}
+use Rattle.chip.proofs.FlatLaws.{chip-one}
 use Rattle.access.specs.Access.{cReadOf}
-use Rattle.himib.specs.Runs.{Point, Happening}
+use Rattle.himib.specs.Runs.{Point}
 use Rattle.telling.specs.declared.Told.{Told}
 use Rattle.telling.specs.Telling.{spoken, spelt, toldAs, differ, movedOf, statusOf, wordsOf, tellOf, OneTold, SameAnswer}
 use Rattle.telling.proofs.TellingLaws.{said-line}
 
-abbrev toldAt : Point → ℕ → Told
-toldAt p next = record { chip = p .chip; host = p .host; next = next }
+abbrev told : FlatChip → Host → ℕ → Told
+told c h next = record { chip = c; host = h; next = next }
 
 pub one-told : OneTold
-one-told s h n bs old place t u x y p q =
-    (ap₂ toldAt (p .after ∙ sym (q .after)) (p .wrote .next ∙ sym (q .wrote .next)), p .wrote .bytes ∙ sym (q .wrote .bytes))
+one-told s h n bs old place t u x y m k p q =
+    let e = p .after ∙ sym (q .after) in (
+      ap (λ (c : FlatChip). told c (t .host) (t .next)) (chip-one (t .chip) (u .chip) m k (ap (λ (p : Point). p .chip) e))
+          ∙ ap₂ (told (u .chip)) (ap (λ (p : Point). p .host) e) (p .wrote .next ∙ sym (q .wrote .next)),
+      p .wrote .bytes ∙ sym (q .wrote .bytes),
+    )
 
 pub same-answer : SameAnswer
 unfolding tellOf toldAs

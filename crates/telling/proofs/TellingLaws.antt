@@ -5,33 +5,38 @@
 --   line-put                 == what `put_line` does with room, but for the newline
 --   wrote-all, wrote-past, wrote-short == what `put_told` shows with room and without
 --   moved-made               == what the loop over the ports has made at its end
+--   moved-any                == which counters moved does not depend on addresses; both-moved == such a word in front of a list
 --   told-made                == a step, its words and its line together
-use Prim.Native.Nat.{ℕ, zero, suc, _+_, _*_, _-_, _≤_, _<_}
-use mathlib.Core.Path.{_≡_, refl, sym, ap, subst, _∙_}
+use Prim.Native.Nat.{ℕ, zero, suc, _+_, _-_, _≤_, _<_}
+use mathlib.Core.Path.{_≡_, refl, sym, ap, ap₂, subst, _∙_}
 use mathlib.Core.Bool.{Bool, true, false}
 use mathlib.Core.List.{List, [], _∷_, _++_, append-assoc}
 use native.Mathlib.Omega.{arith}
 use borrow.Author.Tests.{le-leb, lt-leb}
-use lib.Dec.{leb}
 use lib.ListN.{length, length-append, getD, set, take}
-use lib.Seq.{sets, sets-eq, set-set, take-suc, take-all}
-use Rattle.ports.specs.Sets.{gather}
-use Rattle.ports.proofs.Sets.{gatherFrom, from-all}
+use lib.Seq.{sets, sets-eq, set-set, take-suc}
+use Rattle.ports.specs.Sets.{portCount, gather}
+use Rattle.ports.proofs.Sets.{gatherFrom, from-all, gather-same}
 use Rattle.host.specs.declared.Host.{Host}
 use Rattle.answer.specs.declared.Answer.{Answer}
 use Rattle.answer.specs.Numerals.{decimal, hex}
 use Rattle.answer.specs.Line.{space, newline, saidOf, tailOf, lineOf}
-use Rattle.answer.specs.Put.{Put, WrittenLine, hasRoom, laid, afterLine, withLine}
+use Rattle.answer.specs.Put.{Put, WrittenLine, hasRoom, laid, withLine}
 use Rattle.answer.proofs.Pieces.{put-then, put-as}
 use Rattle.answer.proofs.Lines.{next-place}
 use Rattle.answer.proofs.Lengths.{line-length-ge}
 use Rattle.answer.proofs.Room as rooms
-use Rattle.chip.specs.declared.Chip.{Chip}
+use Rattle.attributes.specs.Nine.{counterOf}
+use Rattle.attributes.specs.Flat.{nineOf}
+use Rattle.attributes.proofs.FlatLaws.{counter-any}
+use Rattle.chip.specs.declared.FlatChip.{FlatChip}
+use Rattle.chip.specs.Flat.{chipOf}
 use Rattle.himib.specs.declared.Stepped.{Stepped}
+use Rattle.himib.specs.declared.Left.{Left}
 use Rattle.himib.specs.Step.{stepOf}
+use Rattle.himib.specs.Flat.{steppedBy}
 use Rattle.himib.specs.Runs.{happening, at}
-use Rattle.telling.specs.declared.Told.{Told}
-use Rattle.telling.specs.Telling.{spoken, spelt, toldAs, wordsOf, tellOf, longest, roomy, Wrote, Tells}
+use Rattle.telling.specs.Telling.{spoken, spelt, toldAs, differ, movedOf, wordsOf, tellOf, longest, roomy, Wrote, Tells}
 
 pub both-same : {x y : ℕ} {xs ys : List ℕ} → x ≡ y → xs ≡ ys → x ∷ xs ≡ y ∷ ys
 both-same e f = rw (e, f)
@@ -117,14 +122,25 @@ pub moved-made : (f : ℕ → Bool) (i m : ℕ) → i ≤ 0 → m ≡ gatherFrom
 moved-made f zero m h e = e ∙ from-all 9 f
 moved-made f (suc i) m h e = absurd (omega arith)
 
-pub told-made : (s : Chip) (h : Host) (n : ℕ) (bs old new ws : List ℕ) (t : Stepped) (place next : ℕ) → t ≡ stepOf s h bs
-    → ws ≡ wordsOf s (t .chip) (t .host) → Wrote old place (toldAs n (t .answer) ws) new next
+pub moved-any : (flat later a b : List ℕ) (r : ℕ) → movedOf (nineOf flat []) (nineOf later []) r ≡ movedOf (nineOf flat a) (nineOf later b) r
+unfolding movedOf
+moved-any flat later a b r =
+    gather-same portCount (λ i. differ (counterOf (nineOf flat []) i r) (counterOf (nineOf later []) i r))
+    (λ i. differ (counterOf (nineOf flat a) i r) (counterOf (nineOf later b) i r))
+    (λ i h. ap₂ differ (counter-any flat [] a i r) (counter-any later [] b i r))
+
+pub both-moved : (flat later a b : List ℕ) (r : ℕ) {x : ℕ} {xs ys : List ℕ} → x ≡ movedOf (nineOf flat []) (nineOf later []) r → xs ≡ ys
+    → x ∷ xs ≡ movedOf (nineOf flat a) (nineOf later b) r ∷ ys
+both-moved flat later a b r e f = both-same (e ∙ moved-any flat later a b r) f
+
+pub told-made : (s : FlatChip) (h : Host) (n : ℕ) (bs old new ws : List ℕ) (t : Left) (place next : ℕ) → steppedBy t ≡ stepOf (chipOf s) h bs
+    → ws ≡ wordsOf (chipOf s) (chipOf (t .chip)) (t .host) → Wrote old place (toldAs n (t .answer) ws) new next
     → Tells s h n bs old place (record { chip = t .chip; host = t .host; next = next }) new
 unfolding happening tellOf
 told-made s h n bs old new ws t place next e f w =
     record {
       after = ap (λ (t : Stepped). at (t .chip) (t .host)) e;
       wrote =
-          subst (λ (t : Stepped). Wrote old place (toldAs n (t .answer) (wordsOf s (t .chip) (t .host))) new next) e
+          subst (λ (t : Stepped). Wrote old place (toldAs n (t .answer) (wordsOf (chipOf s) (t .chip) (t .host))) new next) e
           (subst (λ (ws : List ℕ). Wrote old place (toldAs n (t .answer) ws) new next) f w);
     }

@@ -31,7 +31,6 @@ use Rattle.answer.specs.Put.{laid}
 use Rattle.attributes.specs.declared.Nine.{Nine}
 use Rattle.attributes.specs.Nine.{counterOf}
 use Rattle.changes.specs.Changes.{bit7, pending}
-use Rattle.chip.specs.declared.Kept.{Kept}
 use Rattle.chip.specs.declared.Core.{Core}
 use Rattle.chip.specs.declared.Chip.{Chip}
 use Rattle.chip.specs.declared.FlatChip.{FlatChip}

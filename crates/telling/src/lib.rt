@@ -201,11 +201,7 @@ fn push(mask: u16, b: bool) -> u16
 }
 
 // The ports whose counter R has moved.
-fn moved(
-    before: &[u32; Flat::COUNTERS],
-    after: &[u32; Flat::COUNTERS],
-    register: usize,
-) -> u16
+fn moved(before: &[u32; Flat::COUNTERS], after: &[u32; Flat::COUNTERS], register: usize) -> u16
     ensures { λ r. ⌜ r ≡ movedOf (nineOf (now (before .entry)) []) (nineOf (now (after .entry)) []) register ⌝ }
 {
     let mut mask: u16 = 0;

@@ -4,3 +4,4 @@ pub mod Ties
 pub mod Outcomes
 pub mod Program
 pub mod Printed
+pub mod Flat

@@ -1,9 +1,9 @@
 -- One outcome each, and demand 1 with the host's record lent. Assumes nothing.
 --   a-line, a-piece, an-access == what the contracts allow is there: a line of six bytes, a piece of three bytes, a C write; no-other == and nothing else
-use Prim.Native.Nat.{ℕ, _≤_}
+use Prim.Native.Nat.{ℕ}
 use mathlib.Core.Path.{_≡_, refl, sym, ap, ap₂, _∙_}
 use mathlib.Core.Bool.{Bool, true, false}
-use mathlib.Core.List.{List, [], _∷_, _++_, map}
+use mathlib.Core.List.{List, [], _∷_, _++_}
 use native.Mathlib.Omega.{arith}
 use borrow.Author.Tests.{eqb-true, eqb-false}
 use lib.Dec.{eqb}
@@ -13,25 +13,28 @@ use Rattle.record.specs.Record.{recordLength}
 use Rattle.host.specs.declared.Host.{Host}
 use Rattle.host.specs.Sequence.{powerUp, withSelection}
 use Rattle.answer.specs.declared.Answer.{Answer}
-use Rattle.answer.specs.declared.Answer.the-variants.{Done, Refused}
+use Rattle.answer.specs.declared.Answer.the-variants.{Done}
 use Rattle.answer.specs.Text.{ascii}
 use Rattle.answer.specs.Numerals.{numeral, decimal}
 use Rattle.answer.specs.Line.{saidOf, tailOf, lineOf}
 use Rattle.answer.specs.Put.{hasRoom, laid, afterLine, withLine, WrittenLine}
-use Rattle.chip.specs.declared.Chip.{Chip}
+use Rattle.ports.specs.Each.{each}
+use Rattle.attributes.specs.Flat.{flatSize, spotsSize}
+use Rattle.chip.specs.declared.FlatChip.{FlatChip}
+use Rattle.chip.specs.Flat.{chipOf, Sized}
+use Rattle.chip.proofs.FlatLaws.{chip-one}
 use Rattle.himib.specs.declared.Stepped.{Stepped}
 use Rattle.himib.specs.Step.{stepOf}
 use Rattle.himib.specs.Runs.{Point, at, happening, historyOf, runOf, answersIn}
 use Rattle.himib.proofs.Computing.{computing}
-use Rattle.block.specs.declared.Block.{Block}
 use Rattle.block.specs.Block.{Work, cameTo, AnsweredPiece}
 use Rattle.lent.specs.declared.Rest.{Rest}
 use Rattle.lent.specs.Lent.{together, requested, cWrite, cRead, dWrite, dRead}
-use Rattle.lent.proofs.Kept.{kept, lent-kept, step-kept}
+use Rattle.lent.proofs.Kept.{lent-kept, step-kept}
 use Rattle.pass.specs.Judged.{happens, history, run}
 use Rattle.pass.specs.Examples.{up}
-use Rattle.ties.specs.Outcomes.{OneLine, OneBlock, OnePiece, OneList, OneLent, Takes, Steps, LentIsStill}
-use Rattle.ties.specs.Outcomes.{Call, Calls, leftBy, askedIn, LentCallsAreARun}
+use Rattle.ties.specs.Outcomes.{OneLine, chipIn, OneBlock, OnePiece, OneList, OneLent, Takes, Steps, StillLent, LentIsStill}
+use Rattle.ties.specs.Outcomes.{askedIn, LentCallsAreARun}
 
 -- INSTANCES
 
@@ -46,12 +49,20 @@ a-piece : AnsweredPiece 7 (1 ∷ 2 ∷ 3 ∷ []) dots (ascii "7 ref 9\n" ++ repl
 unfolding computing happening hasRoom laid afterLine withLine lineOf tailOf saidOf numeral decimal
 a-piece = record { line = λ other p. (refl, refl); none = λ e. absurd (omega (arith, e)) }
 
-an-access : Takes (cWrite 0x10) (up .chip) powerUp (record { chip = up .chip; answer = Done }) (withSelection powerUp 16 0)
+-- power-up with zeros, as it is kept
+abbrev zeros : FlatChip
+zeros = record { core = up .chip .core; flat = record { counters = replicate flatSize 0; addresses = replicate spotsSize 0 } }
+
+zeros-up : (chipOf zeros ≡ up .chip) × Sized zeros
+unfolding computing each
+zeros-up = (refl, record { counters = refl; addresses = refl })
+
+an-access : Takes (cWrite 0x10) zeros powerUp (record { chip = zeros; answer = Done }) (withSelection powerUp 16 0)
 unfolding computing
 an-access = refl
 
 -- P 17 is not allowed after it
-no-other : Takes (cWrite 0x10) (up .chip) powerUp (record { chip = up .chip; answer = Done }) (withSelection powerUp 17 0) → ⊥
+no-other : Takes (cWrite 0x10) zeros powerUp (record { chip = zeros; answer = Done }) (withSelection powerUp 17 0) → ⊥
 unfolding computing
 no-other e =
     let k : _≡_ {A = ℕ} 17 16 = ap (λ (t : Stepped). t .host .page) e in
@@ -62,20 +73,13 @@ no-other e =
 pub one-line : OneLine
 one-line old at n a x y r s p q = (p .next ∙ sym (q .next), p .bytes ∙ sym (q .bytes))
 
-abbrev blockIn : Work → Block
-blockIn w = record {
-  core = w .point .chip .core;
-  attributes = w .point .chip .attributes;
-  host = w .point .host;
-  number = w .number;
-  at = w .at;
-  used = w .used;
-}
-
 pub one-block : OneBlock
-one-block core nine h n input out r s x y p q =
+one-block core flat addresses h n input out r s x y a b p q =
     let e : cameTo r x ≡ cameTo s y = p .is ∙ sym (q .is) in
-    (ap blockIn e, ap (λ (w : Work). w .out) e)
+    let c : chipIn r ≡ chipIn s = chip-one (chipIn r) (chipIn s) a b (ap (λ (w : Work). w .point .chip) e) in (
+      ap₂ (λ (k : FlatChip) (w : Work). record { core = k .core; flat = k .flat; host = w .point .host; number = w .number; at = w .at; used = w .used }) c e,
+      ap (λ (w : Work). w .out) e,
+    )
 
 pub one-piece : OnePiece
 one-piece n piece out x y r s p q = go (eqb (length piece) recordLength) refl
@@ -89,42 +93,49 @@ one-piece n piece out x y r s p q = go (eqb (length piece) recordLength) refl
         (p .line k up .0 ∙ sym (q .line k up .0), p .line k up .1 ∙ sym (q .line k up .1))
 
 pub one-list : OneList
-one-list c bs out d e x y p q = (p .0 ∙ sym (q .0), p .1 ∙ sym (q .1))
+one-list c bs out d e x y a b p q = (chip-one d e a b (p .0 ∙ sym (q .0)), p .1 ∙ sym (q .1))
 
-abbrev restIn : Stepped → Rest
-restIn t = record { chip = t .chip; answer = t .answer }
-
-one : (t : Stepped) (r s : Rest) (y z : Host) → together r y ≡ t → together s z ≡ t → (r ≡ s) × (y ≡ z)
-one t r s y z p q =
+one : (t : Stepped) (r s : Rest) (y z : Host) → Sized (r .chip) → Sized (s .chip) → together r y ≡ t → together s z ≡ t → (r ≡ s) × (y ≡ z)
+one t r s y z a b p q =
     let e : together r y ≡ together s z = p ∙ sym q in
-    (ap restIn e, ap (λ (w : Stepped). w .host) e)
+    let c : r .chip ≡ s .chip = chip-one (r .chip) (s .chip) a b (ap (λ (w : Stepped). w .chip) e) in (
+      ap₂ (λ (k : FlatChip) (w : Stepped). record { chip = k; answer = w .answer }) c e,
+      ap (λ (w : Stepped). w .host) e,
+    )
 
 pub one-lent : OneLent
 one-lent = record {
-  write-c = λ byte c h r s y z p q. one (requested (cWrite byte) c h) r s y z p q;
-  write-d = λ byte c h r s y z p q. one (requested (dWrite byte) c h) r s y z p q;
-  read-c = λ c h r s y z p q. one (requested cRead c h) r s y z p q;
-  read-d = λ c h r s y z p q. one (requested dRead c h) r s y z p q;
-  step = λ bs c h r s y z p q. one (stepOf c h bs) r s y z p q;
+  write-c = λ byte c h. one (requested (cWrite byte) (chipOf c) h);
+  write-d = λ byte c h. one (requested (dWrite byte) (chipOf c) h);
+  read-c = λ c h. one (requested cRead (chipOf c) h);
+  read-d = λ c h. one (requested dRead (chipOf c) h);
+  step = λ bs c h. one (stepOf (chipOf c) h bs);
 }
 
-still-step : (bs : List ℕ) (c : Chip) (h : Host) (r : Rest) (z : Host) (k : ℕ) → Steps bs c h r z → r .answer ≡ Refused k → (r .chip ≡ c) × (z ≡ h)
-still-step bs c h r z k e d =
-    let t = step-kept c h bs k (sym (ap (λ (s : Stepped). s .answer) e) ∙ d) in
-    (ap (λ (s : Stepped). s .chip) (e ∙ t), ap (λ (s : Stepped). s .host) (e ∙ t))
+-- what stands for the chip as it was is the chip as it was
+still : (c : FlatChip) (h : Host) (r : Rest) (z : Host) → Sized c → Sized (r .chip) → (chipOf (r .chip) ≡ chipOf c) × (z ≡ h) → (r .chip ≡ c) × (z ≡ h)
+still c h r z a b e = (chip-one (r .chip) c b a (e .0), e .1)
+
+still-step : (bs : List ℕ) → StillLent (Steps bs)
+still-step bs c h r z k a b e d =
+    let t = step-kept (chipOf c) h bs k (sym (ap (λ (s : Stepped). s .answer) e) ∙ d) in
+    still c h r z a b (ap (λ (s : Stepped). s .chip) (e ∙ t), ap (λ (s : Stepped). s .host) (e ∙ t))
+
+still-access : (q : Record) → StillLent (Takes q)
+still-access q c h r z k a b e d = still c h r z a b (lent-kept q c h r z k e d)
 
 pub lent-is-still : LentIsStill
 lent-is-still = record {
-  write-c = λ byte c h r z k. lent-kept (cWrite byte) c h r z k;
-  write-d = λ byte c h r z k. lent-kept (dWrite byte) c h r z k;
-  read-c = λ c h r z k. lent-kept cRead c h r z k;
-  read-d = λ c h r z k. lent-kept dRead c h r z k;
+  write-c = λ byte. still-access (cWrite byte);
+  write-d = λ byte. still-access (dWrite byte);
+  read-c = still-access cRead;
+  read-d = still-access dRead;
   step = still-step;
 }
 
 -- a call leaves the point that its record leads to, and has its answer
-called : (bs : List ℕ) (c : Chip) (h : Host) (r : Rest) (z : Host) → Steps bs c h r z
-    → (at (r .chip) z ≡ happens (at c h) bs .after) × (r .answer ≡ happens (at c h) bs .answer)
+called : (bs : List ℕ) (c : FlatChip) (h : Host) (r : Rest) (z : Host) → Steps bs c h r z
+    → (at (chipOf (r .chip)) z ≡ happens (at (chipOf c) h) bs .after) × (r .answer ≡ happens (at (chipOf c) h) bs .answer)
 unfolding happening
 called bs c h r z e = (ap (λ (t : Stepped). at (t .chip) (t .host)) e, ap (λ (t : Stepped). t .answer) e)
 

@@ -3,3 +3,4 @@ pub mod Ties
 pub mod Outcomes
 pub mod Program
 pub mod Printed
+pub mod Flat

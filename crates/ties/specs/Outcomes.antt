@@ -1,6 +1,6 @@
 -- Document 01, 'What each statement must settle': any pair of outcomes that a contract allows is equal. Most contracts are an equation with a definition, and
 -- need nothing. Here stand the functions whose contract is a relation, or which hand something back through what they were lent: each with two results and
--- two later contents, both as the contract allows.
+-- two later contents, both as the contract allows. Results that hold a chip have the arrays that its type says: as many places, and no more.
 --   OneLine  == `put_line` of answer; OneBlock, OnePiece == `answer_block` and `answer_piece` of block; OneList == `answer_all` of lent
 --   OneLent  == `write_c`, `write_d`, `read_c`, `read_d` and `step` of lent; the results and the lent records that they leave
 -- And demand 1 of the last five:
@@ -17,9 +17,9 @@ use Rattle.host.specs.declared.Host.{Host}
 use Rattle.answer.specs.declared.Answer.{Answer}
 use Rattle.answer.specs.declared.Answer.the-variants.{Refused}
 use Rattle.answer.specs.Put.{WrittenLine}
-use Rattle.attributes.specs.declared.Nine.{Nine}
 use Rattle.chip.specs.declared.Core.{Core}
-use Rattle.chip.specs.declared.Chip.{Chip}
+use Rattle.chip.specs.declared.FlatChip.{FlatChip}
+use Rattle.chip.specs.Flat.{chipOf, Sized}
 use Rattle.himib.specs.Step.{stepOf}
 use Rattle.himib.specs.Runs.{Point, at, answersIn}
 use Rattle.block.specs.declared.Block.{Block}
@@ -33,10 +33,15 @@ abbrev pub OneLine : Type 0
 OneLine =
     (old : List ℕ) (at n : ℕ) (a : Answer) (x y : List ℕ) (r s : ℕ) → WrittenLine old at n a x r → WrittenLine old at n a y s → (r ≡ s) × (x ≡ y)
 
+-- the chip that a block leaves, as it is kept
+abbrev pub chipIn : Block → FlatChip
+chipIn b = record { core = b .core; flat = b .flat }
+
 abbrev pub OneBlock : Type 0
 OneBlock =
-    (core : Core) (nine : Nine) (h : Host) (n : ℕ) (input out : List ℕ) (r s : Block) (x y : List ℕ)
-    → Answered (standing core nine h) n input out (cameTo r x) → Answered (standing core nine h) n input out (cameTo s y) → (r ≡ s) × (x ≡ y)
+    (core : Core) (flat addresses : List ℕ) (h : Host) (n : ℕ) (input out : List ℕ) (r s : Block) (x y : List ℕ) → Sized (chipIn r) → Sized (chipIn s)
+    → Answered (standing core flat addresses h) n input out (cameTo r x) → Answered (standing core flat addresses h) n input out (cameTo s y)
+    → (r ≡ s) × (x ≡ y)
 
 abbrev pub OnePiece : Type 0
 OnePiece =
@@ -44,19 +49,20 @@ OnePiece =
 
 abbrev pub OneList : Type 0
 OneList =
-    (c : Chip) (bs out : List ℕ) (d e : Chip) (x y : List ℕ) → (d ≡ chipAfterAll c bs) × (x ≡ answersLaid c bs out)
-    → (e ≡ chipAfterAll c bs) × (y ≡ answersLaid c bs out) → (d ≡ e) × (x ≡ y)
+    (c : FlatChip) (bs out : List ℕ) (d e : FlatChip) (x y : List ℕ) → Sized d → Sized e
+    → (chipOf d ≡ chipAfterAll (chipOf c) bs) × (x ≡ answersLaid (chipOf c) bs out)
+    → (chipOf e ≡ chipAfterAll (chipOf c) bs) × (y ≡ answersLaid (chipOf c) bs out) → (d ≡ e) × (x ≡ y)
 
 -- what a lent function ensures of its result r and of the record z that it leaves
-abbrev pub Takes : Record → Chip → Host → Rest → Host → Type 0
-Takes q c h r z = together r z ≡ requested q c h
+abbrev pub Takes : Record → FlatChip → Host → Rest → Host → Type 0
+Takes q c h r z = together r z ≡ requested q (chipOf c) h
 
-abbrev pub Steps : List ℕ → Chip → Host → Rest → Host → Type 0
-Steps bs c h r z = together r z ≡ stepOf c h bs
+abbrev pub Steps : List ℕ → FlatChip → Host → Rest → Host → Type 0
+Steps bs c h r z = together r z ≡ stepOf (chipOf c) h bs
 
 -- one result and one later record
-abbrev pub One : (Chip → Host → Rest → Host → Type 0) → Type 0
-One E = (c : Chip) (h : Host) (r s : Rest) (y z : Host) → E c h r y → E c h s z → (r ≡ s) × (y ≡ z)
+abbrev pub One : (FlatChip → Host → Rest → Host → Type 0) → Type 0
+One E = (c : FlatChip) (h : Host) (r s : Rest) (y z : Host) → Sized (r .chip) → Sized (s .chip) → E c h r y → E c h s z → (r ≡ s) × (y ≡ z)
 
 pub record OneLent : Type 0 where
   pub write-c : (byte : ℕ) → One (Takes (cWrite byte))
@@ -66,8 +72,9 @@ pub record OneLent : Type 0 where
   pub step : (bs : List ℕ) → One (Steps bs)
 
 -- turned away, everything is as it was
-abbrev pub StillLent : (Chip → Host → Rest → Host → Type 0) → Type 0
-StillLent E = (c : Chip) (h : Host) (r : Rest) (z : Host) (k : ℕ) → E c h r z → r .answer ≡ Refused k → (r .chip ≡ c) × (z ≡ h)
+abbrev pub StillLent : (FlatChip → Host → Rest → Host → Type 0) → Type 0
+StillLent E =
+    (c : FlatChip) (h : Host) (r : Rest) (z : Host) (k : ℕ) → Sized c → Sized (r .chip) → E c h r z → r .answer ≡ Refused k → (r .chip ≡ c) × (z ≡ h)
 
 pub record LentIsStill : Type 0 where
   pub write-c : (byte : ℕ) → StillLent (Takes (cWrite byte))
@@ -81,12 +88,12 @@ pub record Call : Type 0 where
   pub rest : Rest
   pub host : Host
 
-abbrev pub Calls : Chip → Host → List Call → Type 0
+abbrev pub Calls : FlatChip → Host → List Call → Type 0
 Calls c h [] = Unit
 Calls c h (k ∷ ks) = Steps (k .bytes) c h (k .rest) (k .host) × Calls (k .rest .chip) (k .host) ks
 
-abbrev pub leftBy : Chip → Host → List Call → Point
-leftBy c h [] = at c h
+abbrev pub leftBy : FlatChip → Host → List Call → Point
+leftBy c h [] = at (chipOf c) h
 leftBy c h (k ∷ ks) = leftBy (k .rest .chip) (k .host) ks
 
 abbrev pub askedIn : List Call → List (List ℕ)
@@ -94,5 +101,5 @@ askedIn ks = map (λ k. k .bytes) ks
 
 abbrev pub LentCallsAreARun : Type 0
 LentCallsAreARun =
-    (c : Chip) (h : Host) (ks : List Call) → Calls c h ks
-    → (leftBy c h ks ≡ run (at c h) (askedIn ks)) × (map (λ k. k .rest .answer) ks ≡ answersIn (history (at c h) (askedIn ks)))
+    (c : FlatChip) (h : Host) (ks : List Call) → Calls c h ks
+    → (leftBy c h ks ≡ run (at (chipOf c) h) (askedIn ks)) × (map (λ k. k .rest .answer) ks ≡ answersIn (history (at (chipOf c) h) (askedIn ks)))

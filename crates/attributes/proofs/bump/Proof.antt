@@ -1,7 +1,6 @@
 use Rattle.ports.specs.Sets.{portCount}
 use borrow.Author.Needs.{needs}
 use Prim.Native.Nat.{_-_, _<_}
-use mathlib.Core.Path.{_≡_}
 use native.Mathlib.Omega.{arith}
 use lib.Bits.{bitAnd, and-le-r}
 use Rattle.ports.proofs.Places.{First, first-is, first-low}

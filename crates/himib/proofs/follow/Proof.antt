@@ -33,6 +33,9 @@ power-up-requires c κs = search needs
 enum-known-asked-4 : tie.Need-enum-known-asked-4
 enum-known-asked-4 c = search needs
 
+turn-away-requires : tie.Need-turn-away-requires
+turn-away-requires c κs = search needs
+
 returns : tie.Need-returns
 returns c = follows-as (c .before .before .before .before .asked .given .1) (c .follow-burst .ensures)
 
@@ -46,7 +49,7 @@ returns-4 : tie.Need-returns-4
 returns-4 c = follows-as (c .before .before .enum-told .given .1) (follows-reset _ _ _ _ _ _ _ (c .before .reset .ensures) (c .power-up .ensures))
 
 returns-5 : tie.Need-returns-5
-returns-5 c = follows-as (c .before .asked4 .given .1) (follows-refused _ _ _ _ _ _)
+returns-5 c = follows-as (c .before .before .asked4 .given .1) (rw (c .turn-away .ensures) (follows-refused _ _ _ _ _ _))
 
 pub follow-spec : {M : Type 1} → statement M
 follow-spec =
@@ -62,6 +65,7 @@ follow-spec =
     reset-requires
     power-up-requires
     enum-known-asked-4
+    turn-away-requires
     returns
     returns-2
     returns-3

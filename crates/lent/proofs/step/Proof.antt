@@ -37,9 +37,11 @@ use denote.Exit.{yes}
 use Rattle.host.specs.declared.Host.{Host}
 use Rattle.host.proofs.Host as Hst
 use Rattle.chip.specs.declared.Chip.{Chip}
+use Rattle.chip.specs.declared.FlatChip.{FlatChip}
+use Rattle.chip.specs.Flat.{chipOf}
 use Rattle.himib.specs.Step.{stepOf}
-use Rattle.chip.proofs.Chip as Chp
-use Rattle.chip.proofs.Chip.Laws as Chp′
+use Rattle.chip.proofs.FlatChip as Chp
+use Rattle.chip.proofs.FlatChip.Laws as Chp′
 use Rattle.record.specs.declared.Record.{Record}
 use Rattle.record.specs.Refusals.{recordOf}
 use Rattle.record.proofs.Record as Rqs
@@ -80,7 +82,7 @@ module _ {M : Type 1} (𝓤 : URA M) (H : Heap 𝓤) (A : Atoms 𝓤) (at-mem : 
   said κ y r = exE 𝓤 _ (λ ws. snd∗ 𝓤 (sem 𝓤 H A (lasts maker.ended (κ, tt) (y, tt) ws)) (fact 𝓤 (r ≡ recordOf (y .now))))
 
 module _ {M : Type 1} (𝓤 : URA M) (H : Heap 𝓤) (A : Atoms 𝓤) (W : Given 𝓤 H A) (at-mem : Memory → SProp 𝓤) (run : Routine → Fun 𝓤)
-    (κ : Lft) (q : Share) (b o : ℕ) (γ : GName) (h : Host) (c : Chip) (gc : Is Chp.the-row c (chipVal c ∷ []))
+    (κ : Lft) (q : Share) (b o : ℕ) (γ : GName) (h : Host) (c : FlatChip) (gc : Is Chp.the-row c (chipVal c ∷ []))
     (κ′ : Lft) (q′ : Share) (b′ o′ : ℕ) (γ′ : GName) (ys : List ℕ) (gn : Room u8 (length ys)) where
   abbrev y : RefT (List ℕ)
   y = record { ptr = (b′, o′); name = γ′; now = ys }
@@ -88,7 +90,7 @@ module _ {M : Type 1} (𝓤 : URA M) (H : Heap 𝓤) (A : Atoms 𝓤) (W : Given
   abbrev s : Val
   s = sliceVal (b′, o′) (length ys)
 
-  abbrev x : RefT Host × (Chip × (RefT (List ℕ) × Unit {0}))
+  abbrev x : RefT Host × (FlatChip × (RefT (List ℕ) × Unit {0}))
   x = (lentAt b o γ h, (c, (y, tt)))
 
   abbrev at : List Val × (List Val × (List Val × Unit {0}))
@@ -97,7 +99,7 @@ module _ {M : Type 1} (𝓤 : URA M) (H : Heap 𝓤) (A : Atoms 𝓤) (W : Given
   abbrev Post : Val → SProp 𝓤
   Post = walkOf 𝓤 H A f.ended stayed (f.clauses 𝓤 H A at-mem run) .post (((κ, (κ′, tt)), (q, (q′, tt)), tt, x, at), tt)
 
-  exits : (a : Rest) (w : Val) (z : Host) → Is Rst.the-row a (w ∷ []) → together a z ≡ stepOf c h ys
+  exits : (a : Rest) (w : Val) (z : Host) → Is Rst.the-row a (w ∷ []) → together a z ≡ stepOf (chipOf c) h ys
       → ent 𝓤 (⋆ 𝓤 H A (‵ (flft κ q) ∷ ‵ (fres γ (Hst.the-row .coded .code z)) ∷ ‵ (flft κ′ q′) ∷ [])) (Post w)
   exits a w z is e =
       qed W (‵ (flft κ q) ∷ ‵ (fres γ (Hst.the-row .coded .code z)) ∷ ‵ (flft κ′ q′) ∷ []) ∵
@@ -137,7 +139,7 @@ module _ {M : Type 1} (𝓤 : URA M) (H : Heap 𝓤) (A : Atoms 𝓤) (W : Given
         land ! (from ! (stop !)) (init ! 5 refl (requestFits W r v is)) $
         split ! $ keep ! (2 ∷ 3 ∷ 0 ∷ 4 ∷ 5 ∷ 6 ∷ 7 ∷ 8 ∷ 9 ∷ 10 ∷ 11 ∷ 12 ∷ 13 ∷ 14 ∷ 15 ∷ []) $
         passes-on 𝓤 H A W at-mem run κ q b o γ h c gc r v is C Λ fm known (sliceTy (tyRef (named 1) imm (tyInt w8))) s (‵ (flft κ′ q′)) Post l₀ l₁ l₂ l₃ l₄ l₅
-        (λ a w z ia e′. exits a w z ia (e′ ∙ ap (λ (r′ : Record). requested r′ c h) e ∙ stepped c h ys))))))))))
+        (λ a w z ia e′. exits a w z ia (e′ ∙ ap (λ (r′ : Record). requested r′ (chipOf c) h) e ∙ stepped (chipOf c) h ys))))))))))
 
 module _ {M : Type 1} (𝓤 : URA M) (H : Heap 𝓤) (A : Atoms 𝓤) (W : Given 𝓤 H A) (at-mem : Memory → SProp 𝓤) (run : Routine → Fun 𝓤) where
   goes : AllGo 𝓤 H A W 2 (f.signature .params) (f.ended .kept) stayed

@@ -35,12 +35,14 @@ use denote.Exit.{yes}
 use Rattle.host.specs.declared.Host.{Host}
 use Rattle.host.proofs.Host as Hst
 use Rattle.answer.proofs.Answer.Laws as Ans′
-use Rattle.chip.specs.declared.Chip.{Chip}
-use Rattle.himib.specs.declared.Stepped.{Stepped}
-use Rattle.chip.proofs.Chip as Chp
-use Rattle.chip.proofs.Chip.Laws as Chp′
-use Rattle.himib.proofs.Stepped as Stp
-use Rattle.himib.proofs.Stepped.Laws as Stp′
+use Rattle.chip.specs.declared.FlatChip.{FlatChip}
+use Rattle.chip.specs.Flat.{chipOf}
+use Rattle.himib.specs.declared.Left.{Left}
+use Rattle.himib.specs.Flat.{steppedBy}
+use Rattle.chip.proofs.FlatChip as Chp
+use Rattle.chip.proofs.FlatChip.Laws as Chp′
+use Rattle.himib.proofs.Left as Lef
+use Rattle.himib.proofs.Left.Laws as Lef′
 use Rattle.record.specs.declared.Record.{Record}
 use Rattle.record.proofs.Record as Rqs
 use Rattle.record.proofs.Record.Laws as Rqs′
@@ -63,40 +65,40 @@ use Rattle.lent.proofs.take.Code as code
 abbrev stayed : Stays (f.ended .signature .params) (f.ended .kept)
 stayed = (stay-ref (0 ∷ []) tt (plain (λ _. Hst.the-row)), (stay-dropped (plain (λ _. Chp.the-row)) yes, (stay-dropped (plain (λ _. Rqs.the-row)) yes, tt)))
 
-abbrev stepVal : Stepped → Val
-stepVal = LL.val Stp.the-type Stp′.the-laws
+abbrev stepVal : Left → Val
+stepVal = LL.val Lef.the-type Lef′.the-laws
 
 -- that of its parts, and of what goes to the result
-step-parts : (s : Stepped) → stepVal s ≡ made (chipVal (s .chip)) (hostVal (s .host)) (answerVal (s .answer))
+step-parts : (s : Left) → stepVal s ≡ made (chipVal (s .chip)) (hostVal (s .host)) (answerVal (s .answer))
 step-parts s = refl
 
-abbrev restOf : Stepped → Val
+abbrev restOf : Left → Val
 restOf s = left (chipVal (s .chip)) (answerVal (s .answer))
 
 -- of what `take_by_value` returns, what comes back beside the record; and what is known of its parts
-abbrev rest : Stepped → Rest
+abbrev rest : Left → Rest
 rest s = record { chip = s .chip; answer = s .answer }
 
-rest-is : (s : Stepped) {v : Val} → Is Stp.the-row s (v ∷ []) → Is Rst.the-row (rest s) (restOf s ∷ [])
-rest-is s is = let parts = LL.owed Stp.the-type Stp′.the-laws s _ is in LL.owes Rst.the-type Rst′.the-laws (rest s) (parts .0, parts .1 .1)
+rest-is : (s : Left) {v : Val} → Is Lef.the-row s (v ∷ []) → Is Rst.the-row (rest s) (restOf s ∷ [])
+rest-is s is = let parts = LL.owed Lef.the-type Lef′.the-laws s _ is in LL.owes Rst.the-type Rst′.the-laws (rest s) (parts .0, parts .1 .1)
 
-host-is : (s : Stepped) {v : Val} → Is Stp.the-row s (v ∷ []) → Is Hst.the-row (s .host) (hostVal (s .host) ∷ [])
-host-is s is = LL.owed Stp.the-type Stp′.the-laws s _ is .1 .0
+host-is : (s : Left) {v : Val} → Is Lef.the-row s (v ∷ []) → Is Hst.the-row (s .host) (hostVal (s .host) ∷ [])
+host-is s is = LL.owed Lef.the-type Lef′.the-laws s _ is .1 .0
 
 module _ {M : Type 1} (𝓤 : URA M) (H : Heap 𝓤) (A : Atoms 𝓤) (at-mem : Memory → SProp 𝓤) (run : Routine → Fun 𝓤) where
   abbrev G : Contract 𝓤
   G = tripleOf 𝓤 H A g.signature (g.spec 𝓤 H A at-mem run)
 
-  abbrev Ensured : Host → Chip → Record → Stepped → SProp 𝓤
+  abbrev Ensured : Host → FlatChip → Record → Left → SProp 𝓤
   Ensured h c r s = ensured 𝓤 H A g.ended (g.clauses 𝓤 H A at-mem run) tt (h, (c, (r, tt))) tt s
 
-  said : (h : Host) (c : Chip) (r : Record) (s : Stepped) → ent 𝓤 (Ensured h c r s) (fact 𝓤 (s ≡ requested r c h))
-  said h c r s = exE 𝓤 _ (λ ws. snd∗ 𝓤 (sem 𝓤 H A (lasts g.ended tt (h, (c, (r, tt))) ws)) (fact 𝓤 (s ≡ requested r c h)))
+  said : (h : Host) (c : FlatChip) (r : Record) (s : Left) → ent 𝓤 (Ensured h c r s) (fact 𝓤 (steppedBy s ≡ requested r (chipOf c) h))
+  said h c r s = exE 𝓤 _ (λ ws. snd∗ 𝓤 (sem 𝓤 H A (lasts g.ended tt (h, (c, (r, tt))) ws)) (fact 𝓤 (steppedBy s ≡ requested r (chipOf c) h)))
 
 module _ {M : Type 1} (𝓤 : URA M) (H : Heap 𝓤) (A : Atoms 𝓤) (W : Given 𝓤 H A) (at-mem : Memory → SProp 𝓤) (run : Routine → Fun 𝓤)
-    (κ : Lft) (q : Share) (b o : ℕ) (γ : GName) (h : Host) (c : Chip) (gc : Is Chp.the-row c (chipVal c ∷ [])) (r : Record)
+    (κ : Lft) (q : Share) (b o : ℕ) (γ : GName) (h : Host) (c : FlatChip) (gc : Is Chp.the-row c (chipVal c ∷ [])) (r : Record)
     (gr : Is Rqs.the-row r (requestVal r ∷ [])) where
-  abbrev x : RefT Host × (Chip × (Record × Unit {0}))
+  abbrev x : RefT Host × (FlatChip × (Record × Unit {0}))
   x = (lentAt b o γ h, (c, (r, tt)))
 
   abbrev at : List Val × (List Val × (List Val × Unit {0}))
@@ -105,7 +107,7 @@ module _ {M : Type 1} (𝓤 : URA M) (H : Heap 𝓤) (A : Atoms 𝓤) (W : Given
   abbrev Post : Val → SProp 𝓤
   Post = walkOf 𝓤 H A f.ended stayed (f.clauses 𝓤 H A at-mem run) .post (((κ, tt), (q, tt), tt, x, at), tt)
 
-  exits : (s : Stepped) (w : Val) → s ≡ requested r c h → Is Rst.the-row (rest s) (w ∷ [])
+  exits : (s : Left) (w : Val) → steppedBy s ≡ requested r (chipOf c) h → Is Rst.the-row (rest s) (w ∷ [])
       → ent 𝓤 (sep 𝓤 (A .obs γ (Hst.the-row .coded .code (s .host))) (sep 𝓤 (A .bor κ (Body (mem Hst.the-row) b o γ)) (A .lft κ q))) (Post w)
   exits s w e is =
       qed W (‵ (fobs γ (Hst.the-row .coded .code (s .host))) ∷ ‵ (fbor κ (Body (mem Hst.the-row) b o γ)) ∷ ‵ (flft κ q) ∷ []) ∵
@@ -128,10 +130,10 @@ module _ {M : Type 1} (𝓤 : URA M) (H : Heap 𝓤) (A : Atoms 𝓤) (W : Given
     walk : ent 𝓤 (onEntry 𝓤 H A f.signature (κ, tt) (q, tt) x at) (WpFn 𝓤 H C Λ code.function (vptr b o ∷ chipVal c ∷ requestVal r ∷ []) Post)
     walk =
         takes 𝓤 H A W C Λ _ restTy chipTy requestTy Ans′.mir κ q b o γ h (chipVal c) (requestVal r) Post
-        Stp.the-row (λ s. s .host) (λ s. chipVal (s .chip)) (λ s. hostVal (s .host)) (λ s. answerVal (s .answer))
-        (Ensured 𝓤 H A at-mem run h c r) (λ s. s ≡ requested r c h) (said 𝓤 H A at-mem run h c r)
-        (λ s v is. LL.lawful Stp.the-type Stp′.the-laws 𝓤 H A W .typed s _ is .0)
-        (λ s v is. ap only (LL.tells Stp.the-type Stp′.the-laws s _ is) ∙ step-parts s)
+        Lef.the-row (λ s. s .host) (λ s. chipVal (s .chip)) (λ s. hostVal (s .host)) (λ s. answerVal (s .answer))
+        (Ensured 𝓤 H A at-mem run h c r) (λ s. steppedBy s ≡ requested r (chipOf c) h) (said 𝓤 H A at-mem run h c r)
+        (λ s v is. LL.lawful Lef.the-type Lef′.the-laws 𝓤 H A W .typed s _ is .0)
+        (λ s v is. ap only (LL.tells Lef.the-type Lef′.the-laws s _ is) ∙ step-parts s)
         (λ s v is. host-is s is) (λ s v is. restFits W (rest s) (restOf s) (rest-is s is)) (λ s v e is. exits s (restOf s) e (rest-is s is))
         fm (G 𝓤 H A at-mem run .pre to-g) goes-g (known to-g) (chipFits W c (chipVal c) gc) (requestFits W r (requestVal r) gr)
         (owns (Chp.the-row ∷ Rqs.the-row ∷ []) (x .1) (at .1))

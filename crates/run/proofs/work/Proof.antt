@@ -1,3 +1,6 @@
+use Prim.Native.Nat.{_-_, _≤_}
+use native.Mathlib.Omega.{arith}
+use lib.ListN.{length, take, length-take}
 use mathlib.Core.Path.{refl}
 use Rattle.run.proofs.Leaving.{nothing-lost}
 use borrow.Author.Needs.{needs}
@@ -20,7 +23,11 @@ sub-left : tie.Need-sub-left
 sub-left c = search needs
 
 shift-requires : tie.Need-shift-requires
-shift-requires c κs = search needs
+shift-requires c κs =
+    let a = c .before .before .before .before .before .before .before .before .before .before .before .before .before .before .before .before .before .before .args in
+    let i = c .before .before .before .before .before .before .answer-block .ensures .inside in
+    let n : length (take (a .total - 0) (a .buf .now)) ≤ a .total - 0 = rw length-take (omega arith) in
+    omega (arith, i, n, c .before .before .before .before .before .before .before .before .before .before .before .before .before .before .before .before .before .before .pre)
 
 same-length : tie.Need-same-length
 same-length c = search needs
@@ -31,7 +38,7 @@ same-length-2 c = search needs
 returns : tie.Need-returns
 returns c =
     let b = c .before .before .before .before .before .before .before .before .before in
-    let s = b .before .before .before .before .before .before .before .before .before .before in
+    let s = b .before .before .before .before .before .before .before .before .before .before .before .before in
     let a = s .args in
     nothing-lost (a .state) (a .buf .now) (a .out .now) _ _ (a .total) (b .answer-block .result .at) _ (search needs) (search needs) refl
     (b .answer-block .ensures) (c .before .before .shift .ensures)

@@ -7,6 +7,7 @@ use Rattle.ports.specs.Sets.{portCount}
 use Rattle.attributes.specs.declared.Attributes.{Attributes}
 use Rattle.attributes.specs.declared.Nine.{Nine}
 use Rattle.attributes.specs.Nine.{nothingCounted, withPort}
+use Rattle.attributes.specs.Flat.{nineIn}
 use Rattle.start.specs.Start.{portSize, portFrom, nineUpTo}
 use Rattle.start.proofs.nine_in.Statement.{statement}
 use Rattle.start.proofs.nine_in.Tie as tie
@@ -21,10 +22,10 @@ module _ (s : List ℕ) (nine : Nine) where
   one-more i port e f = let k : i + 1 ≡ suc i = omega arith in rw (k, e, f)
 
 abbrev Inv-loop : tie.InvT-loop
-Inv-loop s nine₀ i₀ nine i = (i ≤ portCount) × (nine ≡ nineUpTo s i)
+Inv-loop s flat₀ i₀ flat i = (i ≤ portCount) × (nineIn flat ≡ nineUpTo s i)
 
 abbrev μ-loop : tie.MeasureT-loop
-μ-loop s nine₀ i₀ nine i = portCount - i
+μ-loop s flat₀ i₀ flat i = portCount - i
 
 zero-requires : tie.Need-zero-requires Inv-loop μ-loop
 zero-requires c κs = search needs

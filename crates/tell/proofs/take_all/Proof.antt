@@ -1,7 +1,6 @@
 -- `tell::take_all` meets its contract. No line has more than 141 bytes, so there is room for the lines of 128 records. Assumes nothing.
 use Prim.Native.Nat.{_*_, _-_, _≤_}
 use mathlib.Core.Path.{_≡_}
-use native.Mathlib.Omega.{arith}
 use borrow.Author.Needs.{needs}
 use lib.ListN.{length}
 use Rattle.tell.proofs.take_all.Statement.{statement}

@@ -1,10 +1,12 @@
 -- `telling::moved` meets its contract. The mask is built from the last port to the first. Assumes nothing.
 use Prim.Native.Nat.{_≤_, _<_}
-use mathlib.Core.Path.{_≡_, _∙_, ap}
+use mathlib.Core.Path.{_≡_, _∙_}
+use mathlib.Core.List.{[]}
 use native.Mathlib.Omega.{arith}
 use borrow.Author.Needs.{needs}
 use Rattle.ports.proofs.Sets.{gatherFrom, from-none, from-turn, from-lt}
 use Rattle.attributes.specs.Nine.{counterOf}
+use Rattle.attributes.specs.Flat.{nineOf}
 use Rattle.telling.specs.Telling.{differ, movedOf}
 use Rattle.telling.proofs.TellingLaws.{moved-made}
 use Rattle.telling.proofs.moved.Statement.{statement}
@@ -12,7 +14,7 @@ use Rattle.telling.proofs.moved.Tie as tie
 
 abbrev Inv-loop : tie.InvT-loop
 Inv-loop before after register mask₀ i₀ mask i =
-    (i ≤ 9) × (mask ≡ gatherFrom 9 i (λ j. differ (counterOf before j register) (counterOf after j register)))
+    (i ≤ 9) × (mask ≡ gatherFrom 9 i (λ j. differ (counterOf (nineOf before []) j register) (counterOf (nineOf after []) j register)))
 
 abbrev μ-loop : tie.MeasureT-loop
 μ-loop before after register mask₀ i₀ mask i = i

@@ -2,7 +2,7 @@
 use mathlib.Core.Path.{refl}
 use borrow.Author.Needs.{needs}
 use Rattle.telling.specs.Telling.{wordsOf}
-use Rattle.telling.proofs.TellingLaws.{both-same}
+use Rattle.telling.proofs.TellingLaws.{both-same, both-moved}
 use Rattle.telling.proofs.words_of.Statement.{statement}
 use Rattle.telling.proofs.words_of.Tie as tie
 
@@ -93,34 +93,34 @@ moved-total-requires-2 c κs = search needs
 returns : tie.Need-returns
 unfolding wordsOf
 returns c =
-    let c1 = c .before in
-    let c2 = c1 .before in
-    let c3 = c2 .before in
-    let c4 = c3 .before in
-    let c5 = c4 .before in
-    let c6 = c5 .before in
-    let c7 = c6 .before in
-    let c8 = c7 .before in
-    let c9 = c8 .before in
-    let c10 = c9 .before in
-    let c11 = c10 .before in
-    let c12 = c11 .before in
-    let c13 = c12 .before in
-    let c14 = c13 .before in
-    let c15 = c14 .before in
-    let c16 = c15 .before in
-    let c17 = c16 .before in
-    let c18 = c17 .before in
-    let c19 = c18 .before in
-    let c20 = c19 .before in
-    let c21 = c20 .before in
-    let c22 = c21 .before in
-    let c23 = c22 .before in
-    let c24 = c23 .before in
-    let c25 = c24 .before in
-    let c26 = c25 .before in
-    let c27 = c26 .before in
-    both-same (c27 .enabled .ensures) (both-same (c26 .linked .ensures) (both-same (c25 .partitioned .ensures) (both-same (c24 .change .ensures) (both-same (c23 .change2 .ensures) (both-same (c22 .change3 .ensures) (both-same (c21 .change4 .ensures) (both-same (c20 .change5 .ensures) (both-same (c19 .change6 .ensures) (both-same (c18 .change7 .ensures) (both-same (c17 .status-of .ensures) (both-same (c16 .wide .ensures) (both-same (c15 .wide2 .ensures) (both-same (c14 .moved .ensures) (both-same (c13 .moved2 .ensures) (both-same (c12 .moved3 .ensures) (both-same (c11 .moved4 .ensures) (both-same (c10 .moved5 .ensures) (both-same (c9 .moved6 .ensures) (both-same (c8 .moved7 .ensures) (both-same (c7 .moved8 .ensures) (both-same (c6 .moved9 .ensures) (both-same (c5 .moved10 .ensures) (both-same (c4 .moved11 .ensures) (both-same (c3 .moved12 .ensures) (both-same (c2 .moved13 .ensures) (both-same (c1 .moved-total .ensures) (both-same (c .moved-total2 .ensures) (refl))))))))))))))))))))))))))))
+    let total = c .before in
+    let m12 = total .before in
+    let m11 = m12 .before .before .before in
+    let m10 = m11 .before .before .before in
+    let m9 = m10 .before .before .before in
+    let m8 = m9 .before .before .before in
+    let m7 = m8 .before .before .before in
+    let m6 = m7 .before .before .before in
+    let m5 = m6 .before .before .before in
+    let m4 = m5 .before .before .before in
+    let m3 = m4 .before .before .before in
+    let m2 = m3 .before .before .before in
+    let m1 = m2 .before .before .before in
+    let m0 = m1 .before .before .before in
+    let register = m0 .before .before .before in
+    let page = register .before in
+    let status = page .before in
+    let k7 = status .before in
+    let k6 = k7 .before in
+    let k5 = k6 .before in
+    let k4 = k5 .before in
+    let k3 = k4 .before in
+    let k2 = k3 .before in
+    let k1 = k2 .before in
+    let partitioned = k1 .before in
+    let linked = partitioned .before in
+    let enabled = linked .before in
+    both-same (enabled .enabled .ensures) (both-same (linked .linked .ensures) (both-same (partitioned .partitioned .ensures) (both-same (k1 .change .ensures) (both-same (k2 .change2 .ensures) (both-same (k3 .change3 .ensures) (both-same (k4 .change4 .ensures) (both-same (k5 .change5 .ensures) (both-same (k6 .change6 .ensures) (both-same (k7 .change7 .ensures) (both-same (status .status-of .ensures) (both-same (page .wide .ensures) (both-same (register .wide2 .ensures) (both-moved _ _ _ _ 0 (m0 .moved .ensures) (both-moved _ _ _ _ 1 (m1 .moved2 .ensures) (both-moved _ _ _ _ 2 (m2 .moved3 .ensures) (both-moved _ _ _ _ 3 (m3 .moved4 .ensures) (both-moved _ _ _ _ 4 (m4 .moved5 .ensures) (both-moved _ _ _ _ 5 (m5 .moved6 .ensures) (both-moved _ _ _ _ 6 (m6 .moved7 .ensures) (both-moved _ _ _ _ 7 (m7 .moved8 .ensures) (both-moved _ _ _ _ 8 (m8 .moved9 .ensures) (both-moved _ _ _ _ 9 (m9 .moved10 .ensures) (both-moved _ _ _ _ 10 (m10 .moved11 .ensures) (both-moved _ _ _ _ 11 (m11 .moved12 .ensures) (both-moved _ _ _ _ 12 (m12 .moved13 .ensures) (both-same (total .moved-total .ensures) (both-same (c .moved-total2 .ensures) refl)))))))))))))))))))))))))))
 
 pub words-of-spec : {M : Type 1} → statement M
 words-of-spec =

@@ -48,9 +48,9 @@ use Rattle.host.proofs.Host.power_up as fresh
 use Rattle.host.proofs.Host.power_up.Symbol as fresh-def
 use Rattle.host.proofs.Host.power_up.Symbol.{name as #fresh}
 use Rattle.host.proofs.Host.power_up.Met as fresh-thm
-use Rattle.chip.specs.declared.Chip.{Chip}
-use Rattle.chip.proofs.Chip as Chp
-use Rattle.chip.proofs.Chip.Laws as Chp′
+use Rattle.chip.specs.declared.FlatChip.{FlatChip}
+use Rattle.chip.proofs.FlatChip as Chp
+use Rattle.chip.proofs.FlatChip.Laws as Chp′
 use Rattle.lent.specs.Lists.{pieces}
 use Rattle.answer.proofs.Answer.Laws as Ans′
 use Rattle.record.specs.declared.Record.{Record}
@@ -116,7 +116,7 @@ module _ {M : Type 1} (𝓤 : URA M) (H : Heap 𝓤) (A : Atoms 𝓤) (at-mem : 
   fresh-said h = exE 𝓤 _ (λ ws. snd∗ 𝓤 (sem 𝓤 H A (lasts fresh.ended tt tt ws)) (fact 𝓤 (h ≡ powerUp)))
 
 module _ {M : Type 1} (𝓤 : URA M) (H : Heap 𝓤) (A : Atoms 𝓤) (W : Given 𝓤 H A) (at-mem : Memory → SProp 𝓤) (run : Routine → Fun 𝓤)
-    (c₀ : Chip) (gc : Is Chp.the-row c₀ (chipVal c₀ ∷ []))
+    (c₀ : FlatChip) (gc : Is Chp.the-row c₀ (chipVal c₀ ∷ []))
     (κ : Lft) (q : Share) (b o : ℕ) (γ : GName) (bs : List ℕ) (gn : Room u8 (length bs))
     (κ′ : Lft) (q′ : Share) (b′ o′ : ℕ) (γ′ : GName) (out₀ : List ℕ) (gn′ : Room u8 (length out₀)) where
   abbrev n : ℕ
@@ -128,7 +128,7 @@ module _ {M : Type 1} (𝓤 : URA M) (H : Heap 𝓤) (A : Atoms 𝓤) (W : Given
   abbrev s′ : Val
   s′ = sliceVal (b′, o′) (length out₀)
 
-  abbrev x : Chip × (RefT (List ℕ) × (RefT (List ℕ) × Unit {0}))
+  abbrev x : FlatChip × (RefT (List ℕ) × (RefT (List ℕ) × Unit {0}))
   x = (c₀, (bytesAt b o γ bs, (bytesAt b′ o′ γ′ out₀, tt)))
 
   abbrev at : List Val × (List Val × (List Val × Unit {0}))
@@ -153,7 +153,7 @@ module _ {M : Type 1} (𝓤 : URA M) (H : Heap 𝓤) (A : Atoms 𝓤) (W : Given
       (known-fresh : Triple 𝓤 (𝓣 .C #fresh) (Fresh 𝓤 H A at-mem run))
       (known-request : Triple 𝓤 (𝓣 .C #request) (Request 𝓤 H A at-mem run)) (known-take : Triple 𝓤 (𝓣 .C #take) (Take 𝓤 H A at-mem run))
       (known-lay : Triple 𝓤 (𝓣 .C #lay) (Lay 𝓤 H A at-mem run))
-      (σ : Sym) (chipTy requestTy answerTy : Ty) (chipFits : (c : Chip) (v : Val) → Is Chp.the-row c (v ∷ []) → T (hasTy chipTy v) × WT v)
+      (σ : Sym) (chipTy requestTy answerTy : Ty) (chipFits : (c : FlatChip) (v : Val) → Is Chp.the-row c (v ∷ []) → T (hasTy chipTy v) × WT v)
       (requestFits : (r : Record) (v : Val) → Is Rqs.the-row r (v ∷ []) → T (hasTy requestTy v) × WT v)
       (restFits : (a : Rest) (v : Val) → Is Rst.the-row a (v ∷ []) → T (hasTy (restTy σ chipTy answerTy) v) × WT v) where
     walk : ent 𝓤 (onEntry 𝓤 H A f.signature (κ, (κ′, tt)) (q, (q′, tt)) x at) (WpFn 𝓤 H (𝓣 .C) (𝓣 .Λ) (answering σ chipTy requestTy answerTy) (chipVal c₀ ∷ s ∷ s′ ∷ []) Post)

@@ -56,8 +56,9 @@ use Rattle.host.proofs.Host as Hst
 use Rattle.host.proofs.Host.Laws as Hst′
 use Rattle.answer.specs.declared.Answer.{Answer}
 use Rattle.answer.proofs.Answer as Ans
-use Rattle.chip.specs.declared.Chip.{Chip}
-use Rattle.chip.proofs.Chip as Chp
+use Rattle.chip.specs.declared.FlatChip.{FlatChip}
+use Rattle.chip.specs.Flat.{chipOf}
+use Rattle.chip.proofs.FlatChip as Chp
 use Rattle.record.specs.declared.Record.{Record}
 use Rattle.record.specs.Refusals.{recordOf}
 use Rattle.record.proofs.Record as Rqs
@@ -118,20 +119,20 @@ module _ {M : Type 1} (𝓤 : URA M) (H : Heap 𝓤) (A : Atoms 𝓤) (at-mem : 
   request-said κ y i r = exE 𝓤 _ (λ ws. snd∗ 𝓤 (sem 𝓤 H A (lasts request.ended (κ, tt) (y, (i, tt)) ws)) (fact 𝓤 (r ≡ recordOf (piece (y .now) i))))
 
 -- where the loop stands, with what is known there
-module _ (bs out₀ : List ℕ) (c₀ : Chip) where
+module _ (bs out₀ : List ℕ) (c₀ : FlatChip) where
   pub record St′ : Type 0 where
     pub i : ℕ
     pub host : Host
-    pub chip : Chip
+    pub chip : FlatChip
     pub out : List ℕ
     pub in-range : i ≤ pieces (length bs)
     pub host-is : Is Hst.the-row host (hostVal host ∷ [])
     pub chip-is : Is Chp.the-row chip (chipVal chip ∷ [])
     pub same : length out ≡ length out₀
-    pub going : Going c₀ bs out₀ i chip host out
+    pub going : Going (chipOf c₀) bs out₀ i (chipOf chip) host out
 
 module _ {M : Type 1} (𝓤 : URA M) (H : Heap 𝓤) (A : Atoms 𝓤) (W : Given 𝓤 H A) (at-mem : Memory → SProp 𝓤) (run : Routine → Fun 𝓤)
-    (c₀ : Chip) (gc : Is Chp.the-row c₀ (chipVal c₀ ∷ []))
+    (c₀ : FlatChip) (gc : Is Chp.the-row c₀ (chipVal c₀ ∷ []))
     (κ : Lft) (q : Share) (b o : ℕ) (γ : GName) (bs : List ℕ) (gn : Room u8 (length bs))
     (κ′ : Lft) (q′ : Share) (b′ o′ : ℕ) (γ′ : GName) (out₀ : List ℕ) (gn′ : Room u8 (length out₀)) where
   abbrev pub n : ℕ
@@ -149,7 +150,7 @@ module _ {M : Type 1} (𝓤 : URA M) (H : Heap 𝓤) (A : Atoms 𝓤) (W : Given
   abbrev pub y : RefT (List ℕ)
   y = bytesAt b o γ bs
 
-  abbrev pub x : Chip × (RefT (List ℕ) × (RefT (List ℕ) × Unit {0}))
+  abbrev pub x : FlatChip × (RefT (List ℕ) × (RefT (List ℕ) × Unit {0}))
   x = (c₀, (y, (bytesAt b′ o′ γ′ out₀, tt)))
 
   abbrev pub at : List Val × (List Val × (List Val × Unit {0}))
@@ -181,7 +182,7 @@ module _ {M : Type 1} (𝓤 : URA M) (H : Heap 𝓤) (A : Atoms 𝓤) (W : Given
     host-is = is;
     chip-is = gc;
     same = refl;
-    going = going-start c₀ bs out₀ h e;
+    going = going-start (chipOf c₀) bs out₀ h e;
   }
 
   next-fits : (t : St) → t .i < n → t .i + 1 < 2 ^ 64
@@ -208,7 +209,7 @@ module _ {M : Type 1} (𝓤 : URA M) (H : Heap 𝓤) (A : Atoms 𝓤) (W : Given
 
   -- what `take` says at a turn
   abbrev pub Served : St → Rest → Host → Type 0
-  Served t a z = together a z ≡ requested (recordOf (piece bs (t .i))) (t .chip) (t .host)
+  Served t a z = together a z ≡ requested (recordOf (piece bs (t .i))) (chipOf (t .chip)) (t .host)
 
   next : (t : St) → t .i < n → (a : Rest) (z : Host) (zs : List ℕ) → Served t a z → zs ≡ laid (t .out) (t .i) (a .answer) → length zs ≡ length (t .out)
       → Is Rst.the-row a (restVal a ∷ []) → Is Hst.the-row z (hostVal z ∷ []) → St
@@ -221,14 +222,14 @@ module _ {M : Type 1} (𝓤 : URA M) (H : Heap 𝓤) (A : Atoms 𝓤) (W : Given
     host-is = isz;
     chip-is = LL.owed Rst.the-type Rst′.the-laws a _ is .0;
     same = lz ∙ t .same;
-    going = going-next c₀ bs out₀ (t .i) (t .chip) (t .host) (t .out) (t .going) l a z zs e d;
+    going = going-next (chipOf c₀) bs out₀ (t .i) (chipOf (t .chip)) (t .host) (t .out) (t .going) l a z zs e d;
   }
 
   abbrev pub Post : Val → SProp 𝓤
   Post = walkOf 𝓤 H A f.ended stayed (f.clauses 𝓤 H A at-mem run) .post (((κ, (κ′, tt)), (q, (q′, tt)), tt, x, at), tt)
 
-  exits : (r : Chip) (out : List ℕ) → Is Chp.the-row r (chipVal r ∷ []) → length out ≡ length out₀
-      → (r ≡ chipAfterAll c₀ bs) × (out ≡ answersLaid c₀ bs out₀)
+  exits : (r : FlatChip) (out : List ℕ) → Is Chp.the-row r (chipVal r ∷ []) → length out ≡ length out₀
+      → (chipOf r ≡ chipAfterAll (chipOf c₀) bs) × (out ≡ answersLaid (chipOf c₀) bs out₀)
       → ent 𝓤 (⋆ 𝓤 H A (‵ (flft κ q) ∷ ‵ (Answers out (length out₀)) ∷ ‵ (flft κ′ q′) ∷ [])) (Post (chipVal r))
   exits r out is l e =
       qed W (‵ (flft κ q) ∷ ‵ (Answers out (length out₀)) ∷ ‵ (flft κ′ q′) ∷ []) ∵
@@ -266,7 +267,7 @@ module _ {M : Type 1} (𝓤 : URA M) (H : Heap 𝓤) (A : Atoms 𝓤) (W : Given
 
   module _ (𝓣 : Tables 𝓤 H) (fm : FmC 𝓤 H (W .laws) (𝓣 .C)) (known-request : Triple 𝓤 (𝓣 .C #request) (Request 𝓤 H A at-mem run))
       (known-take : Triple 𝓤 (𝓣 .C #take) (Take 𝓤 H A at-mem run)) (known-lay : Triple 𝓤 (𝓣 .C #lay) (Lay 𝓤 H A at-mem run))
-      (σ : Sym) (chipTy requestTy answerTy : Ty) (chipFits : (c : Chip) (v : Val) → Is Chp.the-row c (v ∷ []) → T (hasTy chipTy v) × WT v)
+      (σ : Sym) (chipTy requestTy answerTy : Ty) (chipFits : (c : FlatChip) (v : Val) → Is Chp.the-row c (v ∷ []) → T (hasTy chipTy v) × WT v)
       (requestFits : (r : Record) (v : Val) → Is Rqs.the-row r (v ∷ []) → T (hasTy requestTy v) × WT v)
       (restFits : (a : Rest) (v : Val) → Is Rst.the-row a (v ∷ []) → T (hasTy (restTy σ chipTy answerTy) v) × WT v)
       (l₀ l₁ l₂ l₃ l₄ l₅ l₆ l₇ l₈ l₉ l₁₀ l₁₁ l₁₂ l₁₃ l₁₄ l₁₅ l₁₆ : ℕ) where
@@ -397,7 +398,7 @@ module _ {M : Type 1} (𝓤 : URA M) (H : Heap 𝓤) (A : Atoms 𝓤) (W : Given
         rewrite ! 0 (λ (u′ : Val). ‵ (fat fullShare hostTy l₅ 0 u′)) (ap only (LL.tells Hst.the-type Hst′.the-laws z _ isz)) refl $
         keep ! (1 ∷ 2 ∷ 3 ∷ 4 ∷ 5 ∷ 6 ∷ 7 ∷ 8 ∷ 9 ∷ 10 ∷ 11 ∷ 12 ∷ 13 ∷ 14 ∷ 15 ∷ 16 ∷ 17 ∷ 18 ∷ 19 ∷ 20 ∷ 21 ∷ 22 ∷ 23 ∷ 24 ∷ 25 ∷ 26
         ∷ 0 ∷ 27 ∷ 28 ∷ 29 ∷ 30 ∷ 31 ∷ 32 ∷ 33 ∷ 34 ∷ 35 ∷ 36 ∷ 37 ∷ []) $
-        lays t l a z v (e ∙ ap (λ (r′ : Record). requested r′ (t .chip) (t .host)) er)
+        lays t l a z v (e ∙ ap (λ (r′ : Record). requested r′ (chipOf (t .chip)) (t .host)) er)
         (LL.owes Rst.the-type Rst′.the-laws a (LL.owed Rst.the-type Rst′.the-laws a _ is))
         (LL.owes Hst.the-type Hst′.the-laws z (LL.owed Hst.the-type Hst′.the-laws z _ isz))))))))
 
@@ -432,7 +433,7 @@ module _ {M : Type 1} (𝓤 : URA M) (H : Heap 𝓤) (A : Atoms 𝓤) (W : Given
         move ! (4 ∷ 5 ∷ []) $ free1 ! $ free0 ! $
         keep ! (1 ∷ 2 ∷ 3 ∷ []) $
         by ! (exits (t .chip) (t .out) (t .chip-is) (t .same)
-        (going-end c₀ bs out₀ (t .i) (t .chip) (t .host) (t .out) (t .going) (ended t (nltb→le (t .i) n over)))))
+        (going-end (chipOf c₀) bs out₀ (t .i) (chipOf (t .chip)) (t .host) (t .out) (t .going) (ended t (nltb→le (t .i) n over)))))
 
     -- the loop, from where it is reached, and the rest
     pub from-loop : (h : Host) (e : h ≡ powerUp) (is : Is Hst.the-row h (hostVal h ∷ []))

@@ -1,0 +1,2 @@
+-- One start file, computed.
+pub mod Sheet

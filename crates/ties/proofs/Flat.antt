@@ -1,0 +1,88 @@
+-- One outcome each, of the functions that speak of counters and addresses as they are kept. Assumes nothing.
+--   an-address-write == what the contract of an address write allows is there, at AUI; no-neighbour == and TP7's bytes for AUI's are not
+use Prim.Native.Nat.{ℕ}
+use mathlib.Core.Path.{_≡_, refl, sym, ap, ap₂, _∙_}
+use mathlib.Core.List.{List, [], _∷_}
+use native.Mathlib.Omega.{arith}
+use lib.ListN.{set, getD, replicate}
+use Rattle.ports.specs.Each.{each}
+use Rattle.attributes.specs.declared.Nine.{Nine}
+use Rattle.attributes.specs.declared.Due.{Due}
+use Rattle.attributes.specs.Nine.{addressOf, readdressed}
+use Rattle.attributes.specs.Credits.{creditedAll}
+use Rattle.attributes.specs.Flat.{spotsSize, nineOf, Fit}
+use Rattle.attributes.proofs.FlatLaws.{nine-one}
+use Rattle.chip.specs.declared.FlatChip.{FlatChip}
+use Rattle.chip.proofs.FlatLaws.{chip-one}
+use Rattle.himib.specs.declared.Credited.{Credited}
+use Rattle.himib.specs.declared.Stepped.{Stepped}
+use Rattle.himib.specs.Flat.{steppedBy}
+use Rattle.himib.proofs.Computing.{computing}
+use Rattle.start.specs.declared.Started.{Started}
+use Rattle.ties.specs.Flat.{OneFlat, OneChip, OneLeft, OneStart, OneReaddress, OneCredit, OneBurst, OneFollow}
+
+-- AN INSTANCE
+
+abbrev unknown : List ℕ
+unknown = replicate spotsSize 0
+
+abbrev source : List ℕ
+source = 2 ∷ 7 ∷ 6 ∷ 5 ∷ 4 ∷ 3 ∷ []
+
+an-address-write : nineOf [] (set (set (set (set (set (set unknown 48 2) 49 7) 50 6) 51 5) 52 4) 53 3) ≡ readdressed 8 source (nineOf [] unknown)
+unfolding computing each
+an-address-write = refl
+
+no-neighbour : nineOf [] (set (set (set (set (set (set unknown 42 2) 43 7) 44 6) 45 5) 46 4) 47 3) ≡ readdressed 8 source (nineOf [] unknown) → ⊥
+unfolding computing each
+no-neighbour e =
+    let k : _≡_ {A = ℕ} 0 2 = ap (λ (nine : Nine). getD (addressOf nine 8) 0 0) e in
+    absurd (omega (arith, k))
+
+-- THE THEOREMS
+
+-- two pairs of arrays that fit and stand for the same records
+same : (flat addresses x y : List ℕ) → Fit flat addresses → Fit x y → nineOf flat addresses ≡ nineOf x y → (flat ≡ x) × (addresses ≡ y)
+same flat addresses x y a b e = nine-one flat addresses x y (a .counters .long) (b .counters .long) (a .spots) (b .spots) e
+
+pub one-flat : OneFlat
+one-flat nine r s a b p q =
+    let e = same (r .counters) (r .addresses) (s .counters) (s .addresses) a b (p ∙ sym q) in
+    ap₂ (λ (x y : List ℕ). record { counters = x; addresses = y }) (e .0) (e .1)
+
+pub one-chip : OneChip
+one-chip chip r s a b p q = chip-one r s a b (p ∙ sym q)
+
+pub one-left : OneLeft
+one-left t r s a b p q =
+    let e : steppedBy r ≡ steppedBy s = p ∙ sym q in
+    ap₂ (λ (c : FlatChip) (w : Stepped). record { chip = c; host = w .host; answer = w .answer })
+    (chip-one (r .chip) (s .chip) a b (ap (λ (w : Stepped). w .chip) e)) e
+
+pub one-start : OneStart
+one-start t r s a b p q =
+    ap₂ (λ (c : FlatChip) (w : Started). record { fits = w .fits; chip = c })
+    (chip-one (r .chip) (s .chip) a b (ap (λ (w : Started). w .chip) (p ∙ sym q))) (p ∙ sym q)
+
+-- whatever the counters are: zeros here
+pub one-readdress : OneReaddress
+one-readdress i source addresses x y e p q =
+    nine-one (replicate 117 0) x (replicate 117 0) y refl refl (p .fine ∙ e) (q .fine ∙ e) (p .is e (replicate 117 0) ∙ sym (q .is e (replicate 117 0))) .1
+
+pub one-credit : OneCredit
+one-credit met b source flat addresses r s later last x y f p q =
+    let d : r ≡ s = p .due ∙ sym (q .due) in
+    let e = same later last x y (p .fine f) (q .fine f) (p .is f ∙ ap (λ (z : Due). creditedAll z b source (nineOf flat addresses)) d ∙ sym (q .is f)) in
+    (d, e .0, e .1)
+
+pub one-burst : OneBurst
+one-burst c b source flat addresses r s later last x y f p q =
+    let w = p .is f ∙ sym (q .is f) in
+    let e = same later last x y (p .fine f) (q .fine f) (ap (λ (t : Credited). t .attributes) w) in
+    (ap (λ (t : Credited). record { core = t .core; answer = t .answer }) w, e .0, e .1)
+
+pub one-follow : OneFollow
+one-follow c h asked source flat addresses r s later last x y f p q =
+    let w = p .is f ∙ sym (q .is f) in
+    let e = same later last x y (p .fine f) (q .fine f) (ap (λ (t : Stepped). t .chip .attributes) w) in
+    (ap (λ (t : Stepped). record { core = t .chip .core; host = t .host; answer = t .answer }) w, e .0, e .1)
