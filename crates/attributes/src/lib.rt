@@ -1,15 +1,14 @@
 // What the HIMIB counts: the nine ports' counters and last source addresses, and what a burst is credited with. Nine is what the rules speak of, Flat how it is
 // kept; no crate above knows a counter's place. A burst and an address write store what they change in arrays that they are lent.
-ghost use Prim.Native.Nat.{_+_, _≤_, _<_};
+ghost use Prim.Native.Nat.{_<_};
 ghost use mathlib.Core.Path.{_≡_};
 ghost use mathlib.Core.Bool.{cond, _&&_};
 ghost use mathlib.Core.List.{[]};
 ghost use lib.Dec.{eqb};
-ghost use lib.ListN.{getD};
 ghost use Rattle.ports.specs.Sets.{portCount, has};
 ghost use Rattle.attributes.specs.Nine.{counterCount, nothingCounted, counterOf, addressOf, withPort};
 ghost use Rattle.attributes.specs.Credits.{classOf, sameAddress, classPort, changedBy, dueOf};
-ghost use Rattle.attributes.specs.Flat.{place, spot, spotsSize, nineOf, nineIn, stretchOf, Counting, Readdressed, Credited};
+ghost use Rattle.attributes.specs.Flat.{place, nineOf, nineIn, stretchOf, Counting, Readdressed, Credited};
 ghost use Rattle.attributes.specs.Counts.{countedFor, framedPort, Written, Laid};
 use burst::Activity;
 use record::Burst;
@@ -244,7 +243,6 @@ pub fn readdress(addresses: &mut [u8; Flat::ADDRESSES], i: usize, source: [u8; 6
 {
     if i < ports::COUNT {
         write_address(addresses, i, source);
-        return;
     }
 }
 
@@ -381,20 +379,15 @@ impl Flat {
     }
 
     // With port i's attributes put in place, or as it was past the last port.
-    pub fn with_port(self, i: usize, port: Attributes) -> Flat
+    pub fn with_port(mut self, i: usize, port: Attributes) -> Flat
         ensures { λ r. ⌜ nineIn r ≡ withPort (nineIn self) i port ⌝ }
     {
-        let mut counters = self.counters;
-        let mut addresses = self.addresses;
         if i < ports::COUNT {
             let numbers = port.counters;
             let source = port.address;
-            lay(&mut counters, i, numbers);
-            write_address(&mut addresses, i, source);
-            return Flat {
-                counters: counters,
-                addresses: addresses,
-            };
+            lay(&mut self.counters, i, numbers);
+            write_address(&mut self.addresses, i, source);
+            return self;
         }
         self
     }
