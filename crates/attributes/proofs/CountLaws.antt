@@ -27,9 +27,11 @@ use Rattle.attributes.specs.Nine.{readableFrames, readableOctets, collis
 use Rattle.attributes.specs.Nine.{counterCount, portOf, withPort, withAddress, readdressed}
 use Rattle.attributes.specs.Credits.{lateAbove, mismatchAbove, classOf, dueOf, shareOf, one, creditFor, creditsOf, creditOf, counted, creditedWith, creditedAt}
 use Rattle.attributes.specs.Credits.{creditedAll}
+use Rattle.attributes.specs.OneClass.{Falls, short, runt, tooLong, misaligned, faulty, good}
 use Rattle.attributes.specs.Flat.{place, flatSize, spot, spotsSize, listed, recordAt, nineOf, Counters, Counting, Readdressed, Credited}
 use Rattle.attributes.specs.Counts.{countedFor, framedPort, Written, Laid}
 use Rattle.attributes.proofs.Listed.{listed-same, set-listed, each-listed}
+use Rattle.attributes.proofs.OneClass.{falls}
 use Rattle.attributes.proofs.NineLaws.{credits-at}
 use Rattle.attributes.proofs.FlatLaws.{port-held, due-any, stored-at, spot-stored, fine-stored}
 
@@ -165,31 +167,29 @@ counting-as {f} {flat} {later} g e a =
 
 -- WHAT IS DUE
 
--- the six classes are no other register
+-- the six classes are no other register, and below the last
 never : (burst : Burst) (k : ℕ) → eqb 0 k ≡ false → eqb 2 k ≡ false → eqb 3 k ≡ false → eqb 4 k ≡ false → eqb 5 k ≡ false → eqb 6 k ≡ false
     → eqb (classOf burst) k ≡ false
-unfolding classOf
-never burst k e0 e2 e3 e4 e5 e6 = go (ltb (burst .d) 78) (ltb (burst .n) 64) (ltb 1518 (burst .n)) (burst .«fcs_bad») (ltb 0 (burst .k))
+never burst k e0 e2 e3 e4 e5 e6 = go (classOf burst) (falls burst)
   where
-    go : (a b c d f : Bool) → eqb (cond a 5 (cond b 6 (cond c 4 (cond d (cond f 3 2) 0)))) k ≡ false
-    go true b c d f = e5
-    go false true c d f = e6
-    go false false true d f = e4
-    go false false false true true = e3
-    go false false false true false = e2
-    go false false false false f = e0
+    go : (r : ℕ) → Falls burst r → eqb r k ≡ false
+    go r (short d) = e5
+    go r (runt d n) = e6
+    go r (tooLong d n) = e4
+    go r (misaligned d m l f x) = e3
+    go r (faulty d m l f x) = e2
+    go r (good d m l f) = e0
 
 pub class-low : (burst : Burst) → classOf burst < counterCount
-unfolding classOf
-class-low burst = go (ltb (burst .d) 78) (ltb (burst .n) 64) (ltb 1518 (burst .n)) (burst .«fcs_bad») (ltb 0 (burst .k))
+class-low burst = go (classOf burst) (falls burst)
   where
-    go : (a b c d f : Bool) → cond a 5 (cond b 6 (cond c 4 (cond d (cond f 3 2) 0))) < counterCount
-    go true b c d f = omega arith
-    go false true c d f = omega arith
-    go false false true d f = omega arith
-    go false false false true true = omega arith
-    go false false false true false = omega arith
-    go false false false false f = omega arith
+    go : (r : ℕ) → Falls burst r → r < counterCount
+    go r (short d) = omega arith
+    go r (runt d n) = omega arith
+    go r (tooLong d n) = omega arith
+    go r (misaligned d m l f x) = omega arith
+    go r (faulty d m l f x) = omega arith
+    go r (good d m l f) = omega arith
 
 -- the ports of a set that is asked for, or none
 has-those : (b : Bool) (m i : ℕ) → has (cond b m 0) i ≡ (b && has m i)
