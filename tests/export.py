@@ -26,7 +26,7 @@ import generate
 import program
 import roverivet
 from record import SAMPLE
-from robust import any_record
+from robust import any_record, finished as ends
 from roverivet import ATTRIBUTES, BANKS, PORTS, SIZE, START_SIZE
 from tools import export, startfile, text
 from tools.watch import READ, select
@@ -229,12 +229,7 @@ def finished(process, data):
 
     threading.Thread(target=feed, daemon=True).start()
     try:
-        process.wait(SECONDS)
-        return True
-    except subprocess.TimeoutExpired:
-        process.kill()
-        process.wait()
-        return False
+        return ends(process)
     finally:
         process.stderr.close()
         if process.stdout:

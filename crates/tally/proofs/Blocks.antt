@@ -1,40 +1,17 @@
 -- Blocks of input, one after the other, come to what all their bytes together come to. Assumes nothing.
---   in-two-blocks  == a frame of AUI, a record of no kind and three bytes more, computed: at once, and cut behind the first record
 --   onward-append  == whole records and then other bytes, taken in two goes
 --   blocks-are-one == the theorem
 use Prim.Native.Nat.{ℕ, zero, suc, _+_, _*_, _/_, _%_, _≤_, _<_}
 use mathlib.Core.Path.{_≡_, refl, sym, ap, _∙_}
 use mathlib.Core.List.{List, [], _∷_, _++_}
 use native.Mathlib.Omega.{arith}
-use lib.ListN.{length, take, drop, replicate, length-append, length-drop}
+use lib.ListN.{length, take, drop, length-append, length-drop}
 use lib.Seq.{take-append-le, drop-append-le}
 use Rattle.record.specs.Record.{recordLength}
-use Rattle.record.specs.Records.{noAddress, burstRecord}
-use Rattle.attributes.specs.Nine.{readableFrames, readableOctets}
-use Rattle.himib.specs.Runs.{Point, happening, historyOf, runOf, start, allAt, accepted, counterAt}
-use Rattle.himib.proofs.Computing.{computing}
-use Rattle.lent.specs.Lists.{cutOff}
-use Rattle.tally.specs.Tally.{Tally, refusal, refusedIn, tallyOf}
+use Rattle.himib.specs.Runs.{happening}
+use Rattle.tally.specs.Tally.{Tally, refusal}
 use Rattle.tally.specs.Blocks.{begun, onward, blocksOf, AllWhole, joined, BlocksAreOne}
 use Rattle.tally.proofs.TallyLaws.{onward-none, onward-next, onward-begun}
-
--- a frame of 64 octets at AUI
-abbrev frame : List ℕ
-frame = burstRecord 0b100000000 0 600 64 0 0 0 noAddress
-
-abbrev others : List ℕ
-others = replicate 32 0 ++ (7 ∷ 8 ∷ 9 ∷ [])
-
-abbrev up : Point
-up = start (allAt 0)
-
--- how many were turned away, and two counters of AUI
-abbrev told : Tally → List ℕ
-told w = w .refused ∷ counterAt 8 readableFrames (w .point) ∷ counterAt 8 readableOctets (w .point) ∷ []
-
-pub in-two-blocks : (told (tallyOf up (frame ++ others)) ≡ 2 ∷ 1 ∷ 64 ∷ []) × (told (blocksOf (begun up) (frame ∷ others ∷ [])) ≡ 2 ∷ 1 ∷ 64 ∷ [])
-unfolding computing happening historyOf runOf accepted cutOff refusedIn tallyOf blocksOf
-in-two-blocks = (refl, refl)
 
 onward-append : (k : ℕ) (w : Tally) (bs cs : List ℕ) → length bs ≡ recordLength * k → onward (onward w bs) cs ≡ onward w (bs ++ cs)
 onward-append zero w [] cs h = ap (λ (t : Tally). onward t cs) (onward-none w [] refl)

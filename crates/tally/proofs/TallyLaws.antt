@@ -27,9 +27,9 @@ use Rattle.himib.specs.Step.{taken, stepOf}
 use Rattle.himib.specs.Flat.{followedBy, Follows}
 use Rattle.himib.specs.Runs.{Point, at, happening, historyOf, runOf, history, run, answersIn, accepted}
 use Rattle.lent.specs.Lists.{pieces, cutOff, cut}
-use Rattle.tally.specs.declared.Tallied.{Tallied}
-use Rattle.tally.specs.Tally.{Tally, endOf, refusal, refusedIn, tallyOf, standing, cameTo}
+use Rattle.tally.specs.Tally.{Tally, endOf, refusal, refusedIn, tallyOf, standing}
 use Rattle.tally.specs.Blocks.{begun, onward}
+use Rattle.tally.proofs.Sheet.{in-two-blocks}
 
 -- ---- Where a piece ends
 

@@ -1,6 +1,7 @@
 -- One outcome each, of the functions that speak of counters and addresses as they are kept. Assumes nothing.
+--   full-fits        == arrays that fit their type are there: every counter full, and no address known
 --   an-address-write == what the contract of an address write allows is there, at AUI; no-neighbour == and TP7's bytes for AUI's are not
-use Prim.Native.Nat.{ℕ}
+use Prim.Native.Nat.{ℕ, zero, suc, _^_, _<_}
 use mathlib.Core.Path.{_≡_, refl, sym, ap, ap₂, _∙_}
 use mathlib.Core.List.{List, [], _∷_}
 use native.Mathlib.Omega.{arith}
@@ -8,9 +9,9 @@ use lib.ListN.{set, getD, replicate}
 use Rattle.ports.specs.Each.{each}
 use Rattle.attributes.specs.declared.Nine.{Nine}
 use Rattle.attributes.specs.declared.Due.{Due}
-use Rattle.attributes.specs.Nine.{addressOf, readdressed}
+use Rattle.attributes.specs.Nine.{addressOf}
 use Rattle.attributes.specs.Credits.{creditedAll}
-use Rattle.attributes.specs.Flat.{spotsSize, nineOf, Fit}
+use Rattle.attributes.specs.Flat.{flatSize, spotsSize, nineOf, Fit, Readdressed}
 use Rattle.attributes.proofs.FlatLaws.{nine-one}
 use Rattle.chip.specs.declared.FlatChip.{FlatChip}
 use Rattle.chip.proofs.FlatLaws.{chip-one}
@@ -21,7 +22,10 @@ use Rattle.himib.proofs.Computing.{computing}
 use Rattle.start.specs.declared.Started.{Started}
 use Rattle.ties.specs.Flat.{OneFlat, OneChip, OneLeft, OneStart, OneReaddress, OneCredit, OneBurst, OneFollow}
 
--- AN INSTANCE
+-- INSTANCES
+
+abbrev full : List ℕ
+full = replicate flatSize 4294967295
 
 abbrev unknown : List ℕ
 unknown = replicate spotsSize 0
@@ -29,14 +33,22 @@ unknown = replicate spotsSize 0
 abbrev source : List ℕ
 source = 2 ∷ 7 ∷ 6 ∷ 5 ∷ 4 ∷ 3 ∷ []
 
-an-address-write : nineOf [] (set (set (set (set (set (set unknown 48 2) 49 7) 50 6) 51 5) 52 4) 53 3) ≡ readdressed 8 source (nineOf [] unknown)
-unfolding computing each
-an-address-write = refl
+low-at : (n v k : ℕ) → v < 2 ^ 32 → getD (replicate n v) k 0 < 2 ^ 32
+low-at zero v k l = omega arith
+low-at (suc n) v zero l = l
+low-at (suc n) v (suc k) l = low-at n v k l
 
-no-neighbour : nineOf [] (set (set (set (set (set (set unknown 42 2) 43 7) 44 6) 45 5) 46 4) 47 3) ≡ readdressed 8 source (nineOf [] unknown) → ⊥
+full-fits : Fit full unknown
+full-fits = record { counters = record { long = refl; low = λ k. low-at flatSize 4294967295 k (omega arith) }; spots = refl }
+
+an-address-write : Readdressed 8 source unknown (set (set (set (set (set (set unknown 48 2) 49 7) 50 6) 51 5) 52 4) 53 3)
 unfolding computing each
-no-neighbour e =
-    let k : _≡_ {A = ℕ} 0 2 = ap (λ (nine : Nine). getD (addressOf nine 8) 0 0) e in
+an-address-write = record { fine = refl; is = λ e flat. refl }
+
+no-neighbour : Readdressed 8 source unknown (set (set (set (set (set (set unknown 42 2) 43 7) 44 6) 45 5) 46 4) 47 3) → ⊥
+unfolding computing each
+no-neighbour w =
+    let k : _≡_ {A = ℕ} 0 2 = ap (λ (nine : Nine). getD (addressOf nine 8) 0 0) (w .is refl full) in
     absurd (omega (arith, k))
 
 -- THE THEOREMS
