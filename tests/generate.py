@@ -362,15 +362,17 @@ class Maker:
         else:
             self.commands()
 
+    def colliding(self):
+        """Mask and flags of bursts that collide: AUI alone by its signal, or two ports and more."""
+        if self.chance(0.25) and self.listened() & AUI:
+            return self.pick([0, AUI]), rec.AUI_COLLISION
+        if not self.listened() & (self.listened() - 1):
+            self.burst(0xFF, d=100, x=0)
+        return self.some_of(self.listened(), 2), 0
+
     def collisions(self):
         """31 collisions, 32 collisions; with an event after some of them, as if it had kept or cleared the count."""
-        flags = 0
-        if self.chance(0.25) and self.listened() & AUI:
-            mask, flags = self.pick([0, AUI]), rec.AUI_COLLISION
-        else:
-            if not self.listened() & (self.listened() - 1):
-                self.burst(0xFF, d=100, x=0)
-            mask = self.some_of(self.listened(), 2)
+        mask, flags = self.colliding()
         early = self.pick([0, 1, 5, 16, 30, 31])
         runs = [early] if early else []
         runs += [31 - early, 1]
@@ -386,6 +388,32 @@ class Maker:
         self.partitioned |= (mask or AUI) & self.sendable()
         for bank in self.random.sample(BANKS, 2):
             self.counter(bank, 11)
+
+    def fragments(self):
+        """31 collisions with short clean bursts among them, often one of 512 or 513 at the end, and the collision that tells."""
+        if self.chance(0.3):
+            self.command(self.pick([0x10, 0x1F]))
+        mask, flags = self.colliding()
+        ports = mask or AUI
+
+        def clean(d):
+            """From one of the ports, or sent to all of them."""
+            sender = self.port_of(ports) if self.chance(0.5) else self.port_of(self.listened() & ~ports)
+            self.burst(sender, d=d, x=0)
+
+        short = {self.below(31) for _ in range(self.pick([0, 1, 1, 4]))}
+        for turn in range(31):
+            self.collide(mask, flags)
+            if turn in short:
+                clean(self.pick([1, 77, 100, 511, 512]))
+        last = self.pick([0, 512, 512, 513])
+        if last:
+            clean(last)
+        for run in [1, 30, 1] if last > 512 else [1]:
+            for _ in range(run):
+                self.collide(mask, flags)
+            self.look()
+        self.partitioned |= ports & self.sendable()
 
     def long_collision(self):
         mask = self.some_of(self.listened(), 2)
@@ -671,7 +699,7 @@ class Maker:
             self.bank(bank)
 
     SCENES = [
-        links, links, frames, frames, edge, edge, edge, collisions, collisions, long_collision, reconnect, reconnect,
+        links, links, frames, frames, edge, edge, edge, collisions, collisions, fragments, long_collision, reconnect, reconnect,
         silence, silence, half_passed, half_passed, sequence, sequence, address, turns, commands, switching, switching, interrupts, alone, status,
         status, refused, refused, registers, anything,
     ]

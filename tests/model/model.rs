@@ -1,8 +1,9 @@
 //! Document 01 once more, in plain Rust: a second reading to hold the proved program against.
 //!
-//! Written from document 01 alone (open points as docs/DECISIONS.md has them), never from the proved code.
+//! Written from document 01 alone (open points as docs/DECISIONS.md has them), never from the proved code, and
+//! changed by what is requested later: Q-2, what zeroes the count of a connected port.
 //! `chip` is the state machine and does no input or output; `reached` says what a trace has exercised;
-//! `paper` holds the tests, whose expected values stand in document 01. Build with `rustc -O`.
+//! `paper` holds the tests, whose expected values stand in document 01 or in Q-2. Build with `rustc -O`.
 //!
 //!     model [--reached] [START] < TRACE
 //!     model --export ATTRIBUTE [START] < TRACE
@@ -27,7 +28,8 @@ pub mod chip {
     pub const MISMATCH_ABOVE: u32 = 552;
     pub const COLLISIONS_TO_PARTITION: u8 = 32;
     pub const LONG_COLLISION_ABOVE: u32 = 1024;
-    pub const RECONNECTING_ABOVE: u32 = 512;
+    /// A clean burst above this lasts: it zeroes a connected port's count and reconnects a partitioned port.
+    pub const LASTING_ABOVE: u32 = 512;
     pub const TICKS_TO_FAIL: u8 = 100;
     pub const PULSES_TO_PASS: u8 = 4;
     pub const MOST_FRAMES: u32 = 2_829_359;
@@ -567,7 +569,8 @@ pub mod chip {
             }
         }
 
-        /// Each port of T: a collision is counted, a clean burst clears the count or reconnects.
+        /// Each port of T: a collision is counted; a clean burst that lasts zeroes the count or reconnects, and a
+        /// shorter one does neither. The alternate algorithm narrows reconnecting alone.
         fn partition(&mut self, b: &Burst, scene: &Scene) {
             for place in 0..PORTS {
                 let bit = 1 << place;
@@ -589,9 +592,10 @@ pub mod chip {
                     }
                 } else if scene.word != Word::Jam && (scene.active & bit != 0 || sent_data) {
                     let alternate = if place == AUI { self.alternate_aui } else { self.alternate_tp };
-                    if port.connected {
+                    let lasting = b.d > LASTING_ABOVE;
+                    if lasting && port.connected {
                         self.ports[place].count = 0;
-                    } else if b.d > RECONNECTING_ABOVE && (sent_data || !alternate) {
+                    } else if lasting && (sent_data || !alternate) {
                         self.ports[place].connected = true;
                         self.mark(PARTITION_CHANGE, place);
                     }
@@ -919,6 +923,8 @@ pub mod reached {
 
     pub struct Reached {
         times: HashMap<String, u64>,
+        /// Which ports had a short clean burst since their count was last 0.
+        after_short: [bool; PORTS],
     }
 
     const ENABLED_REGISTERS: [usize; 7] = [0, 1, 2, 3, 4, 6, 7];
@@ -939,7 +945,7 @@ pub mod reached {
     impl Reached {
         /// Every name, with nothing reached yet.
         pub fn new() -> Reached {
-            let mut reached = Reached { times: HashMap::new() };
+            let mut reached = Reached { times: HashMap::new(), after_short: [false; PORTS] };
             for name in names() {
                 reached.times.insert(name, 0);
             }
@@ -985,6 +991,9 @@ pub mod reached {
                     let risen = after.changes[r] & !before.changes[r];
                     self.note_if(risen >> place & 1 == 1, format_args!("change.r{r}.bit{place}"));
                 }
+            }
+            for place in 0..PORTS {
+                self.after_short[place] &= after.ports[place].count > 0;
             }
         }
 
@@ -1149,7 +1158,7 @@ pub mod reached {
             }
             let reconnecting = scene.active & scene.sendable & !scene.collided;
             self.note_if(
-                ones == 0 && reconnecting.count_ones() >= 2 && b.d > RECONNECTING_ABOVE,
+                ones == 0 && reconnecting.count_ones() >= 2 && b.d > LASTING_ABOVE,
                 "nil.several_clean",
             );
         }
@@ -1212,6 +1221,11 @@ pub mod reached {
             if old.connected && !new.connected {
                 let cause = if b.x > LONG_COLLISION_ABOVE { "length" } else { "count" };
                 self.note(format_args!("partition.{cause}.{name}"));
+                let kind = if place == AUI { "aui" } else { "tp" };
+                self.note_if(
+                    cause == "count" && self.after_short[place],
+                    format_args!("partition.after_short.{kind}"),
+                );
             }
             if !old.connected && new.connected {
                 self.note(format_args!("reconnect.{algorithm}.{name}"));
@@ -1228,10 +1242,15 @@ pub mod reached {
             self.note_if(collided && old.connected && b.x == 1024, "edge.x1024");
             self.note_if(collided && old.connected && b.x == 1025, "edge.x1025");
             self.note_if(collided && new.count == 31, "edge.count31");
-            self.note_if(clean && old.count == 31 && sent_data, "edge.count31.cleared.sent");
-            self.note_if(clean && old.count == 31 && !sent_data, "edge.count31.cleared.active");
-            self.note_if(clean && old.count > 0 && alternate && !sent_data, "cleared.alternate.active");
-            self.note_if(clean && old.count > 0 && b.d <= 512, "cleared.short");
+            if clean && old.count > 0 {
+                let way = if sent_data { "sent" } else { "active" };
+                let what = if b.d > 512 { "cleared" } else { "kept" };
+                self.note(format_args!("{what}.{algorithm}.{way}"));
+                self.note_if(old.count == 31, format_args!("edge.count31.{what}.{way}"));
+                self.note_if(matches!(b.d, 512 | 513), format_args!("edge.d{}.{what}.{way}", b.d));
+                self.note_if(b.d > 512 && self.after_short[place], "cleared.after_short");
+                self.after_short[place] |= b.d <= 512;
+            }
             self.note_if(old.count > 0 && !clean && !collided && scene.word == Word::Jam, "kept.jam");
             self.note_if(old.count > 0 && !clean && !collided && scene.word == Word::Nil, "kept.nil");
             if !old.connected && clean {
@@ -1555,11 +1574,17 @@ pub mod reached {
         edge.mismatch.others_collide edge.mismatch.collision edge.c512.late edge.c513.late edge.late.single
         edge.d65536.very_long edge.d65537.very_long edge.very_long.collision edge.d1 edge.d1000000 edge.k7
         edge.octets.all edge.collision.all edge.x1024 edge.x1025 edge.count31 edge.count31.cleared.sent
-        edge.count31.cleared.active edge.d512.standard edge.d513.standard edge.d512.alternate edge.d513.alternate
+        edge.count31.cleared.active edge.count31.kept.sent edge.count31.kept.active edge.d512.kept.sent
+        edge.d512.kept.active edge.d513.cleared.sent edge.d513.cleared.active
+        edge.d512.standard edge.d513.standard edge.d512.alternate edge.d513.alternate
         credit.transmit_collisions credit.total_octets wrap.transmit_collisions wrap.total_octets
         partitioned.collides
         reconnect.sent reconnect.active
-        outside.partitioned outside.count cleared.alternate.active cleared.short kept.jam kept.nil
+        partition.after_short.tp partition.after_short.aui
+        outside.partitioned outside.count kept.jam kept.nil
+        kept.standard.sent kept.standard.active kept.alternate.sent kept.alternate.active
+        cleared.standard.sent cleared.standard.active cleared.alternate.sent cleared.alternate.active
+        cleared.after_short
         denied.tp denied.aui denied.jam
         status.S status.S.nil status.S.disabled status.S.again status.S.reported_anew
         status.L status.L.jam status.L.unsent status.L.again status.L.reported_anew status.M status.M.unsent
@@ -1781,7 +1806,7 @@ fn main() {
     }
 }
 
-/// Expected values here stand in document 01; none comes from a run.
+/// Expected values here stand in document 01, and those of the kept count in Q-2; none comes from a run.
 #[cfg(test)]
 mod paper {
     use super::chip::*;
@@ -1930,6 +1955,60 @@ mod paper {
         chip.step(&collision(3, 600, 0, 100));
         assert!(!chip.ports[0].connected);
         assert_eq!(counters(&chip, 0)[AUTO_PARTITIONS], 1);
+    }
+
+    /// TP0 and TP1 with 31 collisions each.
+    fn at_31(alternate: bool) -> Chip {
+        let mut chip = all_passing();
+        if alternate {
+            chip.step(&written(4, 0xfe));
+            assert_eq!(chip.step(&written(5, 0x10)), Answer::Done);
+        }
+        for _ in 0..31 {
+            assert_eq!(chip.step(&burst(3, 600)), Answer::Burst(Word::Jam, 0x1ff));
+        }
+        assert_eq!((chip.ports[0].count, chip.ports[1].count), (31, 31));
+        chip
+    }
+
+    // Sent data from AUI to both, or TP0 heard alone and TP1 sent its data: by either algorithm d alone decides.
+    #[test]
+    fn a_short_clean_burst_keeps_the_count() {
+        for alternate in [false, true] {
+            for (mask, d) in [(0x100, 512), (0x100, 1), (1, 512), (1, 1)] {
+                let mut chip = at_31(alternate);
+                assert_eq!(chip.step(&burst(mask, d)), Answer::Burst(Word::Rep, 0x1ff & !mask));
+                assert_eq!((chip.ports[0].count, chip.ports[1].count), (31, 31), "mask {mask}, d {d}");
+                chip.step(&burst(3, 600));
+                assert!(!chip.ports[0].connected && !chip.ports[1].connected, "mask {mask}, d {d}");
+                assert_eq!(counters(&chip, 0)[AUTO_PARTITIONS], 1, "mask {mask}, d {d}");
+            }
+        }
+    }
+
+    #[test]
+    fn a_clean_burst_above_512_zeroes_the_count() {
+        for alternate in [false, true] {
+            for mask in [0x100, 1] {
+                let mut chip = at_31(alternate);
+                assert_eq!(chip.step(&burst(mask, 513)), Answer::Burst(Word::Rep, 0x1ff & !mask));
+                assert_eq!((chip.ports[0].count, chip.ports[1].count), (0, 0), "mask {mask}");
+                chip.step(&burst(3, 600));
+                assert_eq!((chip.ports[0].connected, chip.ports[0].count), (true, 1), "mask {mask}");
+                assert_eq!((chip.ports[1].connected, chip.ports[1].count), (true, 1), "mask {mask}");
+            }
+        }
+    }
+
+    #[test]
+    fn disabling_and_a_reset_zero_a_kept_count() {
+        let mut chip = at_31(false);
+        chip.step(&burst(0x100, 512));
+        chip.step(&written(4, 0xfe));
+        chip.step(&written(5, 0x20));
+        assert_eq!((chip.ports[0].count, chip.ports[1].count), (0, 31));
+        chip.step(&record(8));
+        assert_eq!(chip.ports[1].count, 0);
     }
 
     #[test]

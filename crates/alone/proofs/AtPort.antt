@@ -13,11 +13,11 @@ use native.Mathlib.Omega.{arith}
 use borrow.Author.Tests.{eqb-true, eqb-false, ne-eqb, ltb-true, ltb-false, lt-ltb}
 use lib.Dec.{eqb, ltb, lit<}
 use Rattle.ports.specs.declared.Quiet.the-variants.{Pulse, Tick}
-use Rattle.ports.specs.Sets.{aui, has, setOf}
+use Rattle.ports.specs.Sets.{aui, has}
 use Rattle.ports.proofs.Sets.{has-none, and-first, and-second}
 use Rattle.management.specs.declared.Query.{Query}
 use Rattle.management.specs.declared.Command.{Command}
-use Rattle.management.specs.Status.{marked, clearedBy}
+use Rattle.management.specs.Status.{clearedBy}
 use Rattle.management.specs.Commands.{commandOf}
 use Rattle.port.specs.declared.Port.{Port}
 use Rattle.port.specs.declared.Meeting.{Meeting}
@@ -30,16 +30,12 @@ use Rattle.port.specs.Settings.{changed}
 use Rattle.record.specs.declared.Burst.{Burst}
 use Rattle.burst.specs.declared.Activity.{Activity}
 use Rattle.burst.specs.declared.Bus.{Bus}
-use Rattle.burst.specs.declared.Hearing.{Hearing}
-use Rattle.burst.specs.declared.Effect.{Effect}
-use Rattle.burst.specs.Burst.{effectOf}
-use Rattle.burst.specs.Clean.{cleanAt}
-use Rattle.burst.specs.Marks.{marksOf}
 use Rattle.repeater.specs.declared.Repeater.{Repeater}
-use Rattle.repeater.specs.Door.{placesOf, portAt, eachPort}
-use Rattle.repeater.specs.Hearing.{hearingOf, meetingOf}
-use Rattle.repeater.specs.Repeater.{quietAt, quieted, alternateFor, partitionedAt, portAfter, followed, burstOf, changedAt, changedTp, setTo, gotOf}
+use Rattle.repeater.specs.Door.{placesOf, portAt}
+use Rattle.repeater.specs.Hearing.{hearingOf}
+use Rattle.repeater.specs.Repeater.{quietAt, quieted, partitionedAt, metAt, burstOf, changedAt, changedTp, setTo, gotOf}
 use Rattle.repeater.proofs.DoorLaws.{port-each, port-put, port-status, port-alternate}
+use Rattle.repeater.proofs.Kept.{port-bursted}
 use Rattle.himib.specs.Bursts.{activityOf}
 use Rattle.past.specs.Deeds.{Deed, bursts, pulses, ticks, commands, uses, resets, refused, isReset, isTick, commandIn, pulseMask, burstMask}
 use Rattle.past.specs.Settings.{disabling, enabling, stopping, starting, commanded}
@@ -346,16 +342,13 @@ partition-bare t m i p = either (has t i) p (afterMeeting m p) p (meeting-bare m
 
 at-burst : (i : ℕ) → i < 9 → (r : Repeater) → placesOf r ≡ 9 → (b : Burst) (source : List ℕ)
     → AtPort i (bursts b source) (portAt r i) (portAt (burstOf r (activityOf b) .repeater) i)
-unfolding burstOf followed portAfter activityOf
+unfolding activityOf
 at-burst i l r nine b source =
     let activity : Activity = activityOf b in
-    let hearing : Hearing = hearingOf r activity in
-    let effect : Effect = effectOf Bus.Nothing hearing activity in
-    let clean : ℕ = setOf (cleanAt hearing effect) in
-    let after : ℕ → Port → Port = portAfter (r .«alternate_aui») (r .«alternate_tp») hearing effect activity clean in
-    let m : Meeting = meetingOf effect activity clean (alternateFor (r .«alternate_aui») (r .«alternate_tp») i) i in
-    let e = port-status (eachPort after r) (marked (r .status) (marksOf effect activity)) i ∙ port-each r after i (rw nine l) in
-    rw e (at-activity i l (portAt r i) b source (partitionedAt (hearing .t) m i (portAt r i)) (partition-bare (hearing .t) m i (portAt r i)))
+    let t : ℕ = hearingOf r activity .t in
+    let m : Meeting = metAt r Bus.Nothing (hearingOf r activity) activity i in
+    rw (port-bursted r activity i (rw nine l))
+    (at-activity i l (portAt r i) b source (partitionedAt t m i (portAt r i)) (partition-bare t m i (portAt r i)))
 
 pub at-port : (i : ℕ) → i < 9 → (r : Repeater) → placesOf r ≡ 9 → (d : Deed) → Proper d → isReset d ≡ false
     → AtPort i d (portAt r i) (portAt (repeaterBy d r) i)

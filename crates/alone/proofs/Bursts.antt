@@ -29,13 +29,13 @@ use Rattle.burst.specs.declared.Hearing.{Hearing}
 use Rattle.burst.specs.declared.Effect.{Effect}
 use Rattle.burst.specs.Burst as burst
 use Rattle.burst.specs.Burst.{heardOf, effectWith, effectOf}
-use Rattle.burst.specs.Clean.{isJam, isRep, dataTo, cleanAt, reconnectingAt}
+use Rattle.burst.specs.Clean.{isJam, isRep, dataTo, cleanAt, lastingAt, reconnectingAt}
 use Rattle.port.specs.Standing.{eventOf}
 use Rattle.repeater.specs.declared.Repeater.{Repeater}
 use Rattle.repeater.specs.declared.Those.the-variants.{Transmitting, Listening}
 use Rattle.repeater.specs.Door.{portAt, placesOf}
 use Rattle.repeater.specs.Hearing.{inT, inL, inH, transmits, listens, hearingOf, meetingOf}
-use Rattle.repeater.specs.Repeater.{alternateFor, among}
+use Rattle.repeater.specs.Repeater.{alternateFor, metAt, among}
 use Rattle.repeater.specs.Events.{followedEvent, burstEvent}
 use Rattle.repeater.proofs.DoorLaws.{past-among}
 use Rattle.repeater.proofs.Hearing.{active-at, burst-hearing, burst-effect}
@@ -43,7 +43,7 @@ use Rattle.himib.specs.Bursts.{activityOf}
 use Rattle.past.specs.Deeds.{Deed}
 use Rattle.past.specs.Settings.{enabledBy, testedBy, alternateBy}
 use Rattle.past.specs.Link.{passesBy}
-use Rattle.past.specs.Bursts.{inE, none, one, more, signalled, crash, wordBy, toldData, jams, outBy, collidedBy, cleanBy, reconnectsBy, metBy}
+use Rattle.past.specs.Bursts.{inE, none, one, more, signalled, crash, wordBy, toldData, jams, outBy, collidedBy, cleanBy, lastingBy, reconnectsBy, metBy}
 use Rattle.past.specs.Partition.{sentTo, struckIn, listenedTo, heardAt, allEvents, partitionedBy, heardBy}
 use Rattle.pass.proofs.Partition.{standing-test}
 use Rattle.alone.specs.Seen.{Settled, Linked, Stood, BurstSeen, burstSeen}
@@ -207,18 +207,23 @@ module _ (b : Burst) (hearing : Hearing) (heard : hearing .heard ≡ heardOf (he
     unfolding dataTo
     data-told = rw (rep-told, out-told, has-gather 16 (outBy t h) i l)
 
-    clean-told : has (setOf (cleanAt hearing effect)) i ≡ cleanBy b t h i
+    clean-told : cleanAt hearing effect i ≡ cleanBy b t h i
     unfolding cleanAt cleanBy
-    clean-told = has-gather 16 (cleanAt hearing effect) i l ∙ rw (jam-told, collided-told i l e, e, data-told)
+    clean-told = rw (jam-told, collided-told i l e, e, data-told)
+
+    lasting-told : has (setOf (lastingAt hearing effect (activityOf b))) i ≡ lastingBy b t h i
+    unfolding lastingAt lastingBy activityOf
+    lasting-told = has-gather 16 (lastingAt hearing effect (activityOf b)) i l ∙ rw clean-told
 
     pub met-told : (alternate : Bool)
-        → cond (has t i) (eventOf (meetingOf effect (activityOf b) (setOf (cleanAt hearing effect)) alternate i)) neither ≡ metBy alternate b t h i
+        → cond (has t i) (eventOf (meetingOf effect (activityOf b) (setOf (lastingAt hearing effect (activityOf b))) alternate i)) neither
+        ≡ metBy alternate b t h i
     unfolding eventOf meetingOf reconnectingAt metBy reconnectsBy activityOf
-    met-told alternate = rw (collided-told i l e, clean-told, data-told) (go (has t i) (collidedBy b t h i) (cleanBy b t h i))
+    met-told alternate = rw (collided-told i l e, lasting-told, data-told) (go (has t i) (collidedBy b t h i) (lastingBy b t h i))
       where
         go : (s c k : Bool)
-            → cond s (cond c (collided (b .x)) (cond k (clean (k && ltb 512 (b .d) && (not alternate || (toldData b h && outBy t h i)))) neither)) neither
-            ≡ cond (not s) neither (cond c (collided (b .x)) (cond k (clean (ltb 512 (b .d) && (not alternate || (toldData b h && outBy t h i)))) neither))
+            → cond s (cond c (collided (b .x)) (cond k (clean (k && (not alternate || (toldData b h && outBy t h i)))) neither)) neither
+            ≡ cond (not s) neither (cond c (collided (b .x)) (cond k (clean (not alternate || (toldData b h && outBy t h i))) neither))
         go true true k = refl
         go true false true = refl
         go true false false = refl
@@ -334,7 +339,7 @@ collided-seen past r b settled linked stood l i k =
 
 pub event-seen : (past : List Deed) (r : Repeater) (b : Burst) → Settled past r → Linked past r → Stood past r
     → (i : ℕ) → i < 9 → burstEvent r (activityOf b) i ≡ metBy (alternateBy i past) b (sentTo past) (heardBy past b) i
-unfolding burstEvent followedEvent
+unfolding burstEvent followedEvent metAt
 event-seen past r b settled linked stood i k =
     let a = activityOf b in
     let t = t-seen past r settled linked stood b in

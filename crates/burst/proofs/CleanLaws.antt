@@ -1,14 +1,17 @@
 -- What a burst is for the ports: the sets' cases, as the code's masks make them. Assumes nothing.
+--   collided-lasts-not == no burst that a port collides on is one that is clean for it and lasts
 use Prim.Native.Nat.{ℕ, _-_, _<_}
 use mathlib.Core.Path.{_≡_, _∙_}
-use mathlib.Core.Bool.{Bool, true, false, not, _&&_, _||_, and-comm}
+use mathlib.Core.Bool.{Bool, true, false, not, _&&_, _||_, and-comm, and-true, and-false}
 use native.Mathlib.Omega.{arith}
+use lib.Dec.{ltb}
 use lib.Bits.{bitAnd, bitOr, or-lt, and-le-l}
 use Rattle.ports.specs.Sets.{has, setOf, without}
-use Rattle.ports.proofs.Sets.{has-and, has-or, has-none, has-gather, has-without, is-gather, gather-lt}
+use Rattle.ports.proofs.Sets.{has-and, has-or, has-none, has-gather, has-without, is-gather, gather-lt, gather-same}
+use Rattle.burst.specs.declared.Activity.{Activity}
 use Rattle.burst.specs.declared.Hearing.{Hearing}
 use Rattle.burst.specs.declared.Effect.{Effect}
-use Rattle.burst.specs.Clean.{isJam, isRep, dataTo, cleanAt}
+use Rattle.burst.specs.Clean.{lastingAbove, isJam, isRep, dataTo, cleanAt, lastingAt}
 
 -- a set from what it has at every place
 module _ (k : ℕ → Bool) where
@@ -47,3 +50,18 @@ module _ (hearing : Hearing) (effect : Effect) where
       (λ i h. has-without n (effect .collided) i k h
       ∙ rw (has-or (hearing .e) d i, q, has-gather 16 (dataTo effect) i h, e)
       (and-comm (has (hearing .e) i || dataTo effect i) (not (has (effect .collided) i))))
+
+  -- the ports that it lasts for as well
+  module _ (activity : Activity) where
+    pub lasting-long : (c : ℕ) → c ≡ setOf (cleanAt hearing effect) → ltb lastingAbove (activity .d) ≡ true
+        → c ≡ setOf (lastingAt hearing effect activity)
+    unfolding lastingAt
+    lasting-long c q e = q ∙ gather-same 16 (cleanAt hearing effect) (lastingAt hearing effect activity) (λ i l. simp (e, and-true))
+
+    pub lasting-short : ltb lastingAbove (activity .d) ≡ false → 0 ≡ setOf (lastingAt hearing effect activity)
+    unfolding lastingAt
+    lasting-short e = none-set (lastingAt hearing effect activity) (λ i. simp (e, and-false))
+
+    pub collided-lasts-not : (i : ℕ) → has (effect .collided) i ≡ true → lastingAt hearing effect activity i ≡ false
+    unfolding lastingAt cleanAt
+    collided-lasts-not i h = simp (h, and-false)

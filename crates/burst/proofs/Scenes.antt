@@ -5,12 +5,12 @@ use mathlib.Core.List.{[], _∷_, map}
 use lib.Count.{ones, trailingZeros}
 use Rattle.ports.specs.Sets.{has, gather}
 use Rattle.burst.specs.Burst.{heardOf, effectWith, effectOf}
-use Rattle.burst.specs.Clean.{dataTo, cleanAt, reconnectingAt}
+use Rattle.burst.specs.Clean.{dataTo, cleanAt, lastingAt, reconnectingAt}
 use Rattle.burst.specs.Marks.{marksOf}
 use Rattle.burst.specs.Scenes.{Scene, found, scenes, activityOf, collidedWith, Report, reported, reports}
 
 pub scenes-follow : map found scenes ≡ map (λ (row : Scene). row .wanted) scenes
-unfolding has gather ones trailingZeros heardOf effectWith effectOf dataTo cleanAt reconnectingAt
+unfolding has gather ones trailingZeros heardOf effectWith effectOf dataTo cleanAt lastingAt reconnectingAt
 scenes-follow = refl
 
 -- AUI is not sent to, and carries its signal: nobody collides by it, alone, beside TP2 and beside TP0 and TP1, who collide with each other

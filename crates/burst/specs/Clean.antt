@@ -1,9 +1,11 @@
--- Document 01, 'Partition': what a burst is for the ports. Where 004 gives a period of 512 for reconnecting, the paper takes over 512.
---   reconnectsAbove          == a clean burst of more bit times than this connects a partitioned port again
+-- Document 01, 'Partition', with Q-2: what a burst is for the ports. Where 004 gives a period of 512 for reconnecting, the paper takes over 512; for Q-2 the
+-- same time is the no-collision time of the standard's partition diagram, and a burst that ends before it leaves the count alone.
+--   lastingAbove             == a clean burst of more bit times than this lasts: it zeroes a connected port's count, or connects a partitioned port again
 --   isJam word, isRep word   == the word is jam, is rep
 --   dataTo effect i          == data, not jam, goes out to port i
 --   cleanAt hearing effect i == the burst is clean for port i, if that is a port of T; nobody asks it of another
---   reconnectingAt effect activity clean alternate i == of the ports that the burst is clean for, it connects port i again, by the standard or the alternate
+--   lastingAt hearing effect activity i == and it lasts
+--   reconnectingAt effect lasting alternate i == of the ports that it is clean for and lasts, it connects port i again, by the standard or the alternate
 --                               algorithm, if the port is partitioned
 -- Assumes nothing.
 use Prim.Native.Nat.{ℕ}
@@ -16,8 +18,8 @@ use Rattle.burst.specs.declared.Word.the-variants.{Nil, Rep, Jam}
 use Rattle.burst.specs.declared.Hearing.{Hearing}
 use Rattle.burst.specs.declared.Effect.{Effect}
 
-abbrev pub reconnectsAbove : ℕ
-reconnectsAbove = 512
+abbrev pub lastingAbove : ℕ
+lastingAbove = 512
 
 abbrev pub isJam : Word → Bool
 isJam Nil = false
@@ -35,5 +37,9 @@ dataTo effect i = isRep (effect .word) && has (effect .out) i
 unfoldable pub cleanAt : Hearing → Effect → ℕ → Bool
 cleanAt hearing effect i = not (isJam (effect .word)) && not (has (effect .collided) i) && (has (hearing .e) i || dataTo effect i)
 
-unfoldable pub reconnectingAt : Effect → Activity → ℕ → Bool → ℕ → Bool
-reconnectingAt effect activity clean alternate i = has clean i && ltb reconnectsAbove (activity .d) && (not alternate || dataTo effect i)
+unfoldable pub lastingAt : Hearing → Effect → Activity → ℕ → Bool
+lastingAt hearing effect activity i = cleanAt hearing effect i && ltb lastingAbove (activity .d)
+
+-- whoever goes by the alternate algorithm is connected again by data that is sent to it alone
+unfoldable pub reconnectingAt : Effect → ℕ → Bool → ℕ → Bool
+reconnectingAt effect lasting alternate i = has lasting i && (not alternate || dataTo effect i)

@@ -5,8 +5,8 @@
 --   heardWith t l activity == what is heard of a burst, with the ports t sent to and the ports l listened to
 --   served          == the ports that are sent to in every scene: TP0, TP1, TP2 and AUI
 --   Scene           == a row: what is listened to, the burst, the word, the ports that something goes out to, the ports that collide, the single heard port,
---                      whether it is a collision and whether two or more are heard; then the ports that the burst is clean for, and those that it connects
---                      again by the standard and by the alternate algorithm
+--                      whether it is a collision and whether two or more are heard; then the ports that the burst is clean for, those for which it lasts as
+--                      well, and those that it connects again by the standard and by the alternate algorithm
 --   found           == what the definitions make of a row
 --   scenes          == the rows
 --   collidedWith    == the ports that collide, where these are sent to and listened to
@@ -27,7 +27,7 @@ use Rattle.burst.specs.declared.Word.the-variants.{Nil, Rep, Jam}
 use Rattle.burst.specs.declared.Hearing.{Hearing}
 use Rattle.burst.specs.declared.Effect.{Effect}
 use Rattle.burst.specs.Burst.{inE, heardOf, effectOf}
-use Rattle.burst.specs.Clean.{cleanAt, reconnectingAt}
+use Rattle.burst.specs.Clean.{cleanAt, lastingAt, reconnectingAt}
 use Rattle.burst.specs.Marks.{marksOf}
 
 abbrev pub flagged : ℕ → Bool → Bool → Bool → Bool → ℕ → ℕ → Activity
@@ -45,6 +45,7 @@ heardWith t l activity =
 pub record Followed : Type 0 where
   pub effect : Effect
   pub clean : ℕ
+  pub lasting : ℕ
   pub standard : ℕ
   pub alternate : ℕ
 
@@ -53,13 +54,14 @@ pub record Scene : Type 0 where
   pub activity : Activity
   pub wanted : Followed
 
-abbrev pub scene : ℕ → Activity → Word → ℕ → ℕ → ℕ → Bool → Bool → ℕ → ℕ → ℕ → Scene
-scene listened activity word out colliding single collision transmitted clean standard alternate = record {
+abbrev pub scene : ℕ → Activity → Word → ℕ → ℕ → ℕ → Bool → Bool → ℕ → ℕ → ℕ → ℕ → Scene
+scene listened activity word out colliding single collision transmitted clean lasting standard alternate = record {
   listened = listened;
   activity = activity;
   wanted = record {
     effect = record { word = word; out = out; collided = colliding; single = single; collision = collision; «transmit_collision» = transmitted };
     clean = clean;
+    lasting = lasting;
     standard = standard;
     alternate = alternate;
   };
@@ -73,29 +75,33 @@ found row =
     let activity : Activity = row .activity in
     let hearing : Hearing = heardWith served (row .listened) activity in
     let effect : Effect = effectOf Bus.Nothing hearing activity in
-    let clean : ℕ = setOf (cleanAt hearing effect) in
+    let lasting : ℕ = setOf (lastingAt hearing effect activity) in
     record {
       effect = effect;
-      clean = clean;
-      standard = setOf (reconnectingAt effect activity clean false);
-      alternate = setOf (reconnectingAt effect activity clean true);
+      clean = setOf (cleanAt hearing effect);
+      lasting = lasting;
+      standard = setOf (reconnectingAt effect lasting false);
+      alternate = setOf (reconnectingAt effect lasting true);
     }
 
 -- In order: TP0 heard alone, for 2000, 512 and 513 bit times; TP0 and TP1; the same with TP3, which is not sent to; a rate error; AUI with its
--- collision signal. Then TP0 is not listened to: active by itself, and beside TP2. At last AUI is not: its signal beside TP2, and alone
+-- collision signal. Then TP0 is not listened to: active by itself, for 2000, 512 and 513 bit times, and beside TP2. At last AUI is not: its signal beside
+-- TP2, and alone
 abbrev pub scenes : List Scene
 scenes =
-    scene 0b100000111 (activityOf 0b000000001 false false 2000 0) Rep 0b100000110 0b000000000 0 false false 0b100000111 0b100000111 0b100000110
-    ∷ scene 0b100000111 (activityOf 0b000000001 false false 512 0) Rep 0b100000110 0b000000000 0 false false 0b100000111 0b000000000 0b000000000
-    ∷ scene 0b100000111 (activityOf 0b000000001 false false 513 0) Rep 0b100000110 0b000000000 0 false false 0b100000111 0b100000111 0b100000110
-    ∷ scene 0b100000111 (activityOf 0b000000011 false false 2000 0) Jam 0b100000111 0b000000011 nobody true true 0b000000000 0b000000000 0b000000000
-    ∷ scene 0b100000111 (activityOf 0b000001011 false false 2000 0) Jam 0b100000111 0b000000011 nobody true true 0b000000000 0b000000000 0b000000000
-    ∷ scene 0b100000111 (activityOf 0b000000001 true false 2000 0) Jam 0b100000110 0b000000000 0 false false 0b000000000 0b000000000 0b000000000
-    ∷ scene 0b100000111 (activityOf 0b100000000 false true 2000 0) Jam 0b000000111 0b100000000 aui true false 0b000000000 0b000000000 0b000000000
-    ∷ scene 0b100000110 (activityOf 0b000000001 false false 2000 0) Nil 0b000000000 0b000000000 nobody false false 0b000000001 0b000000001 0b000000000
-    ∷ scene 0b100000110 (activityOf 0b000000101 false false 2000 0) Rep 0b100000011 0b000000001 2 false false 0b100000110 0b100000110 0b100000010
-    ∷ scene 0b000000111 (activityOf 0b000000100 false true 2000 0) Rep 0b100000011 0b100000000 2 false false 0b000000111 0b000000111 0b000000011
-    ∷ scene 0b000000111 (activityOf 0b000000000 false true 2000 0) Nil 0b000000000 0b100000000 nobody false false 0b000000000 0b000000000 0b000000000
+    scene 0b100000111 (activityOf 0b000000001 false false 2000 0) Rep 0b100000110 0b000000000 0 false false 0b100000111 0b100000111 0b100000111 0b100000110
+    ∷ scene 0b100000111 (activityOf 0b000000001 false false 512 0) Rep 0b100000110 0b000000000 0 false false 0b100000111 0b000000000 0b000000000 0b000000000
+    ∷ scene 0b100000111 (activityOf 0b000000001 false false 513 0) Rep 0b100000110 0b000000000 0 false false 0b100000111 0b100000111 0b100000111 0b100000110
+    ∷ scene 0b100000111 (activityOf 0b000000011 false false 2000 0) Jam 0b100000111 0b000000011 nobody true true 0b000000000 0b000000000 0b000000000 0b000000000
+    ∷ scene 0b100000111 (activityOf 0b000001011 false false 2000 0) Jam 0b100000111 0b000000011 nobody true true 0b000000000 0b000000000 0b000000000 0b000000000
+    ∷ scene 0b100000111 (activityOf 0b000000001 true false 2000 0) Jam 0b100000110 0b000000000 0 false false 0b000000000 0b000000000 0b000000000 0b000000000
+    ∷ scene 0b100000111 (activityOf 0b100000000 false true 2000 0) Jam 0b000000111 0b100000000 aui true false 0b000000000 0b000000000 0b000000000 0b000000000
+    ∷ scene 0b100000110 (activityOf 0b000000001 false false 2000 0) Nil 0b000000000 0b000000000 nobody false false 0b000000001 0b000000001 0b000000001 0b000000000
+    ∷ scene 0b100000110 (activityOf 0b000000001 false false 512 0) Nil 0b000000000 0b000000000 nobody false false 0b000000001 0b000000000 0b000000000 0b000000000
+    ∷ scene 0b100000110 (activityOf 0b000000001 false false 513 0) Nil 0b000000000 0b000000000 nobody false false 0b000000001 0b000000001 0b000000001 0b000000000
+    ∷ scene 0b100000110 (activityOf 0b000000101 false false 2000 0) Rep 0b100000011 0b000000001 2 false false 0b100000110 0b100000110 0b100000110 0b100000010
+    ∷ scene 0b000000111 (activityOf 0b000000100 false true 2000 0) Rep 0b100000011 0b100000000 2 false false 0b000000111 0b000000111 0b000000111 0b000000011
+    ∷ scene 0b000000111 (activityOf 0b000000000 false true 2000 0) Nil 0b000000000 0b100000000 nobody false false 0b000000000 0b000000000 0b000000000 0b000000000
     ∷ []
 
 abbrev pub collidedWith : ℕ → Activity → ℕ

@@ -1,4 +1,5 @@
-// A burst by itself: what is heard of it, what follows for the wire, and what it is for the ports: which it sends data to, is clean for, connects again.
+// A burst by itself: what is heard of it, what follows for the wire, and what it is for the ports: which it sends data to, is clean and lasts for,
+// connects again.
 // The ports' own steps are in the crates port and repeater.
 ghost use mathlib.Core.Path.{_≡_};
 ghost use mathlib.Core.Bool.{_&&_};
@@ -6,7 +7,7 @@ ghost use lib.Dec.{eqb};
 ghost use Rattle.ports.specs.Sets.{setOf};
 ghost use Rattle.burst.specs.Burst.{inE, heardOf, signalled, wordOfOne, effectWith, effectOf};
 ghost use Rattle.burst.specs.Marks.{marksOf};
-ghost use Rattle.burst.specs.Clean.{isJam, isRep, dataTo, cleanAt, reconnectingAt};
+ghost use Rattle.burst.specs.Clean.{isJam, isRep, dataTo, cleanAt, lastingAt, reconnectingAt};
 use management::Status;
 use port::Port;
 
@@ -264,7 +265,7 @@ impl Effect {
     }
 
     // The ports that the burst is clean for.
-    pub fn clean(self, hearing: Hearing) -> u16
+    fn clean(self, hearing: Hearing) -> u16
         ensures { λ r. ⌜ r ≡ setOf (cleanAt hearing self) ⌝ }
     {
         let word = self.word;
@@ -274,16 +275,23 @@ impl Effect {
         ports::less(hearing.e | self.data(), self.collided)
     }
 
-    // Of the ports that the burst is clean for, those that it connects again if they are partitioned.
-    pub fn reconnecting(self, clean: u16, activity: Activity, alternate: bool) -> u16
-        ensures { λ r. ⌜ r ≡ setOf (reconnectingAt self activity clean alternate) ⌝ }
+    // The ports that it is clean for and lasts.
+    pub fn lasting(self, hearing: Hearing, activity: Activity) -> u16
+        ensures { λ r. ⌜ r ≡ setOf (lastingAt hearing self activity) ⌝ }
     {
-        if Port::RECONNECTS_ABOVE < activity.d {
-            if alternate {
-                return clean & self.data();
-            }
-            return clean;
+        if Port::LASTING_ABOVE < activity.d {
+            return self.clean(hearing);
         }
         0
+    }
+
+    // Of these, the ones that it connects again if they are partitioned.
+    pub fn reconnecting(self, lasting: u16, alternate: bool) -> u16
+        ensures { λ r. ⌜ r ≡ setOf (reconnectingAt self lasting alternate) ⌝ }
+    {
+        if alternate {
+            return lasting & self.data();
+        }
+        lasting
     }
 }

@@ -10,33 +10,25 @@ use mathlib.Core.Bool.{Bool, true, false, cond, not, _&&_, and-true, and-false, 
 use borrow.Author.Tests.{eqb-true, ltb-false}
 use lib.Dec.{eqb, ltb}
 use Rattle.ports.specs.declared.Quiet.{Quiet}
-use Rattle.ports.specs.Sets.{aui, has, setOf}
+use Rattle.ports.specs.Sets.{aui, has}
 use Rattle.port.specs.declared.Port.{Port}
 use Rattle.port.specs.declared.Meeting.{Meeting}
 use Rattle.port.specs.declared.Change.{Change}
 use Rattle.port.specs.declared.Change.the-variants.{Disabling, EnablingTp, EnablingAui, StoppingTest, StartingTest}
 use Rattle.port.specs.Partition.{partitioning, afterMeeting}
 use Rattle.port.specs.Settings.{changed}
-use Rattle.port.proofs.Kept.{revived-at-keeps}
 use Rattle.burst.specs.declared.Activity.{Activity}
-use Rattle.burst.specs.declared.Bus.{Bus}
-use Rattle.burst.specs.declared.Hearing.{Hearing}
-use Rattle.burst.specs.declared.Effect.{Effect}
-use Rattle.burst.specs.Burst.{effectOf}
-use Rattle.burst.specs.Clean.{cleanAt}
-use Rattle.burst.specs.Marks.{marksOf}
 use Rattle.management.specs.declared.Setting.{Setting}
 use Rattle.management.specs.declared.Setting.the-variants.{AlternateAui, AlternateTp, DisableAui, EnableAui, DisableTp, EnableTp, LinkTestOff, LinkTestOn}
 use Rattle.management.specs.declared.Query.{Query}
-use Rattle.management.specs.Status.{marked, clearedBy}
+use Rattle.management.specs.Status.{clearedBy}
 use Rattle.repeater.specs.declared.Repeater.{Repeater}
 use Rattle.repeater.specs.declared.Those.the-variants.{Enabled}
-use Rattle.repeater.specs.Door.{withAlternate, placesOf, portAt, eachPort}
-use Rattle.repeater.specs.Hearing.{hearingOf, meetingOf}
-use Rattle.repeater.specs.Repeater.{quieted, alternateFor, partitionedAt, portAfter, followed, burstOf, changedAt, changedTp, setTo, gotOf, among, enabledOf}
+use Rattle.repeater.specs.Door.{withAlternate, placesOf, portAt}
+use Rattle.repeater.specs.Repeater.{quieted, burstOf, changedAt, changedTp, setTo, gotOf, among, enabledOf}
 use Rattle.repeater.specs.Events.{disables}
-use Rattle.repeater.proofs.DoorLaws.{those-has, port-past, port-put, port-status, port-alternate, each-port-keeps}
-use Rattle.repeater.proofs.Kept.{quiet-keeps}
+use Rattle.repeater.proofs.DoorLaws.{those-has, port-past, port-put, port-status, port-alternate}
+use Rattle.repeater.proofs.Kept.{quiet-keeps, burst-keeps}
 
 abbrev pub enabledIn : Repeater → ℕ → Bool
 enabledIn r i = portAt r i .enabled
@@ -58,24 +50,8 @@ meeting-keeps m p =
     either (p .partitioned) p _ _ (either (m .reconnecting) p _ p refl refl)
     (either (m .collided) p _ _ (either (partitioning m (p .count)) p _ _ refl refl) (either (m .clean) p _ p refl refl))
 
-module _ (forAui forTp : Bool) (hearing : Hearing) (effect : Effect) (activity : Activity) (clean : ℕ) where
-  burst-keeps : (i : ℕ) (p : Port) → portAfter forAui forTp hearing effect activity clean i p .enabled ≡ p .enabled
-  unfolding portAfter partitionedAt
-  burst-keeps i p =
-      let m : Meeting = meetingOf effect activity clean (alternateFor forAui forTp i) i in
-      let met : Port = cond (has (hearing .t) i) (afterMeeting m p) p in
-      revived-at-keeps (λ (q : Port). q .enabled) (λ q pass idle pulses. refl) (activity .mask) i met
-      ∙ either (has (hearing .t) i) p (afterMeeting m p) p (meeting-keeps m p) refl
-
 pub enabled-bursted : (r : Repeater) (activity : Activity) (i : ℕ) → enabledIn (burstOf r activity .repeater) i ≡ enabledIn r i
-unfolding burstOf followed
-enabled-bursted r activity i =
-    let hearing : Hearing = hearingOf r activity in
-    let effect : Effect = effectOf Bus.Nothing hearing activity in
-    let clean : ℕ = setOf (cleanAt hearing effect) in
-    let after : ℕ → Port → Port = portAfter (r .«alternate_aui») (r .«alternate_tp») hearing effect activity clean in
-    ap (λ (p : Port). p .enabled) (port-status (eachPort after r) (marked (r .status) (marksOf effect activity)) i)
-    ∙ each-port-keeps (λ (p : Port). p .enabled) r after (burst-keeps (r .«alternate_aui») (r .«alternate_tp») hearing effect activity clean) i
+enabled-bursted r activity i = burst-keeps (λ (p : Port). p .enabled) (λ p pass idle pulses. refl) meeting-keeps r activity i
 
 pub enabled-quieted : (q : Quiet) (r : Repeater) (i : ℕ) → enabledIn (quieted q r) i ≡ enabledIn r i
 enabled-quieted q r i = quiet-keeps (λ (p : Port). p .enabled) (λ p pass idle pulses. refl) q r i

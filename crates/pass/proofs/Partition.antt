@@ -81,6 +81,10 @@ signalled n x = replicate n (burstRecord 0b100000000 0b00100 2000 0 0 100 x noAd
 abbrev alone : ℕ → List (List ℕ)
 alone d = burstRecord 0b01 0 d 0 0 0 0 noAddress ∷ []
 
+-- AUI alone, for d bit times: TP0 and TP1 are sent its data
+abbrev sent : ℕ → List (List ℕ)
+sent d = burstRecord 0b100000000 0 d 0 0 0 0 noAddress ∷ []
+
 -- S is selected, and TP0 disabled through it
 abbrev disabling : List (List ℕ)
 disabling = cWriteRecord 0b11111110 ∷ dWriteRecord 0b00100000 ∷ []
@@ -102,6 +106,23 @@ tp-boundaries : TpBoundaries
 unfolding step-computes runOf historyOf happening eventAt eventOf followedEvent burstEvent ifBurst
 tp-boundaries = found-after-once happens both up (crowded 31) endings refl
 
+-- after 31 such bursts a clean one of 512 bit times leaves the count, and one more collision partitions; one of 513 starts anew
+abbrev fragmentEndings : List (List (List ℕ))
+fragmentEndings = sent 512 ∷ (sent 512 ++ crowd) ∷ (sent 513 ++ crowd) ∷ []
+
+abbrev stands : Point → List Happening → Standing
+stands p hs = standingAt (repeaterAt p) 0
+
+abbrev FragmentBoundaries : Type 0
+FragmentBoundaries =
+    (foundAfter happens both up (crowded 31) fragmentEndings ≡ (no ∷ no ∷ []) ∷ (yes ∷ yes ∷ []) ∷ (no ∷ no ∷ []) ∷ [])
+    × (foundAfter happens stands up (crowded 31) fragmentEndings ≡ connected 31 ∷ partitioned ∷ connected 1 ∷ [])
+
+fragment-boundaries : FragmentBoundaries
+unfolding step-computes runOf historyOf happening eventAt eventOf followedEvent burstEvent ifBurst
+fragment-boundaries =
+    (found-after-once happens both up (crowded 31) fragmentEndings refl, found-after-once happens stands up (crowded 31) fragmentEndings refl)
+
 -- after 31 collisions of AUI: nothing, and a 32nd; and one collision alone
 abbrev auiEndings : List (List (List ℕ))
 auiEndings = [] ∷ signalled 1 300 ∷ []
@@ -120,8 +141,8 @@ long-boundary : LongBoundary
 unfolding step-computes runOf historyOf happening eventAt eventOf followedEvent burstEvent ifBurst
 long-boundary = (found-once happens (told 8) up (signalled 1 1024) refl, found-once happens (told 8) up (signalled 1 1025) refl)
 
-at-boundaries : TpBoundaries × AuiBoundaries × LongBoundary
-at-boundaries = (tp-boundaries, aui-boundaries, long-boundary)
+at-boundaries : TpBoundaries × FragmentBoundaries × AuiBoundaries × LongBoundary
+at-boundaries = (tp-boundaries, fragment-boundaries, aui-boundaries, long-boundary)
 
 -- the two ways of being struck
 struck-by-32 : Struck (since (map (eventAt 0) (history up (crowded 32))))

@@ -10,7 +10,7 @@ use Rattle.past.specs.Deeds.{deedOf, pageBy, registerBy, deedAfter, deed
 use Rattle.past.specs.Since.{cameSince}
 use Rattle.past.specs.Settings.{enabledBy, testedBy, alternateBy}
 use Rattle.past.specs.Link.{silent, trained, raises, breaks, passesBy}
-use Rattle.past.specs.Bursts.{wordBy, outBy, collidedBy, cleanBy, reconnectsBy, metBy}
+use Rattle.past.specs.Bursts.{wordBy, outBy, collidedBy, cleanBy, lastingBy, reconnectsBy, metBy}
 use Rattle.past.specs.Partition.{sentTo, struckIn, listenedTo, heardAt, eventBy, allEvents, partitionedBy, heardBy}
 use Rattle.past.specs.Credits.{creditOf, partitionCredit, framesAt, collisionBy, octetsBy, sumBy}
 use Rattle.past.specs.Addresses.{inARow, completes, addressBy, same, newcomer, creditBy, counterBy}
@@ -26,7 +26,7 @@ asking = 0
 
 -- settings, links, bursts and partition
 unfoldable pub porting : ℕ
-unfolding enabledBy testedBy alternateBy silent trained raises breaks passesBy wordBy outBy collidedBy cleanBy reconnectsBy metBy
+unfolding enabledBy testedBy alternateBy silent trained raises breaks passesBy wordBy outBy collidedBy cleanBy lastingBy reconnectsBy metBy
 porting = 0
 
 unfoldable pub parting : ℕ

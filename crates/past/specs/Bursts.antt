@@ -1,4 +1,4 @@
--- Document 01, 'Burst' and the first half of 'Partition', with sets alone: what follows from a burst b when t are the ports sent to and h the ports heard.
+-- Document 01, 'Burst' and the first half of 'Partition', and Q-2, with sets alone: what follows from a burst b when t are the ports sent to and h the ports heard.
 -- No single heard port is named: it is the one in h.
 --   inE b i        == port i is active
 --   none, one, more == nothing, exactly one port, several are heard
@@ -8,7 +8,8 @@
 --   outBy t h i    == something goes out to port i
 --   collidedBy b t h i == port i collides
 --   cleanBy b t h i == the burst is clean for port i of T
---   reconnectsBy alternate b t h i == and connects it again if it is partitioned
+--   lastingBy b t h i == and lasts long enough to tell against the collisions before it, or for the port if it is partitioned
+--   reconnectsBy alternate b t h i == such a burst connects port i again if it is partitioned
 --   metBy alternate b t h i == the event that the burst is to port i
 -- Assumes nothing.
 use Prim.Native.Nat.{ℕ}
@@ -60,12 +61,16 @@ collidedBy b t h i =
 unfoldable pub cleanBy : Burst → ℕ → ℕ → ℕ → Bool
 cleanBy b t h i = not (jams b h) && not (collidedBy b t h i) && (inE b i || (toldData b h && outBy t h i))
 
+-- a clean burst of 512 bit times or less is nothing to a port
+unfoldable pub lastingBy : Burst → ℕ → ℕ → ℕ → Bool
+lastingBy b t h i = cleanBy b t h i && ltb 512 (b .d)
+
 unfoldable pub reconnectsBy : Bool → Burst → ℕ → ℕ → ℕ → Bool
-reconnectsBy alternate b t h i = ltb 512 (b .d) && (not alternate || (toldData b h && outBy t h i))
+reconnectsBy alternate b t h i = not alternate || (toldData b h && outBy t h i)
 
 unfoldable pub metBy : Bool → Burst → ℕ → ℕ → ℕ → Event
 metBy alternate b t h i =
     cond (not (has t i)) neither
     (cond (collidedBy b t h i) (collided (b .x))
-    (cond (cleanBy b t h i) (clean (reconnectsBy alternate b t h i))
+    (cond (lastingBy b t h i) (clean (reconnectsBy alternate b t h i))
     neither))

@@ -10,13 +10,13 @@ use Rattle.port.specs.Link.{ticked, pulsed, revived, tickedAt, pulsedAt, revive
 use Rattle.port.specs.Partition.{partitioning, afterMeeting}
 use Rattle.port.specs.Settings.{changed}
 use Rattle.burst.specs.Burst.{heardOf, effectWith, effectOf}
-use Rattle.burst.specs.Clean.{dataTo, cleanAt, reconnectingAt}
+use Rattle.burst.specs.Clean.{dataTo, cleanAt, lastingAt, reconnectingAt}
 use Rattle.burst.specs.Marks.{marksOf}
 use Rattle.store.specs.Door.{portsFrom, portsOf, maskOf, withPortsIn, placesIn, portIn, putIn, eachIn, alikeIn, metIn}
 use Rattle.repeater.specs.Door.{placesOf, portAt, putAt, eachPort}
 use Rattle.repeater.specs.Hearing.{transmits, listens, hearingOf, meetingOf}
 use Rattle.repeater.specs.Answers.{answerOf}
-use Rattle.repeater.specs.Repeater.{quieted, alternateFor, partitionedAt, portAfter, followed, burstOf, changedAt, changedTp, setTo, gotOf}
+use Rattle.repeater.specs.Repeater.{quieted, alternateFor, partitionedAt, portAfter, metAt, followed, burstOf, changedAt, changedTp, setTo, gotOf}
 use Rattle.repeater.specs.Repeater.{among, thoseOf}
 
 unfoldable pub below : ℕ
@@ -28,11 +28,11 @@ unfolding ticked pulsed revived tickedAt pulsedAt revivedAt partitioning afterMe
 onePort = 0
 
 unfoldable pub oneBurst : ℕ
-unfolding heardOf effectWith effectOf dataTo cleanAt reconnectingAt marksOf
+unfolding heardOf effectWith effectOf dataTo cleanAt lastingAt reconnectingAt marksOf
 oneBurst = 0
 
 unfoldable pub ofPorts : ℕ
-unfolding portsFrom portsOf maskOf withPortsIn placesIn portIn putIn eachIn alikeIn metIn placesOf portAt putAt eachPort transmits listens hearingOf meetingOf alternateFor partitionedAt portAfter among thoseOf
+unfolding portsFrom portsOf maskOf withPortsIn placesIn portIn putIn eachIn alikeIn metIn placesOf portAt putAt eachPort transmits listens hearingOf meetingOf alternateFor partitionedAt portAfter metAt among thoseOf
 ofPorts = 0
 
 unfoldable pub repeating : ℕ

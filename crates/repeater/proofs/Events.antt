@@ -9,12 +9,12 @@
 --   partitioned-by-past  == demand 3 for the repeater by itself: after any list of inputs from power-up, at every place
 use Prim.Native.Nat.{ℕ, _≤_, _<_}
 use mathlib.Core.Path.{_≡_, refl, ap, _∙_}
-use mathlib.Core.Bool.{Bool, true, false, cond, _&&_, and-false}
+use mathlib.Core.Bool.{Bool, true, false, cond, _&&_}
 use mathlib.Core.List.{List}
 use borrow.Author.Tests.{eqb-true, ltb-false, leb-true, leb-false}
 use lib.Dec.{eqb, ltb, leb}
 use Rattle.ports.specs.declared.Quiet.{Quiet}
-use Rattle.ports.specs.Sets.{aui, has, setOf}
+use Rattle.ports.specs.Sets.{aui, has}
 use Rattle.history.specs.Exactly.{Exactly}
 use Rattle.history.specs.History.{neither, cleared, connected, partitioned, afterEvent, since, Struck}
 use Rattle.history.proofs.Past.{Keeps, told-exactly}
@@ -22,7 +22,7 @@ use Rattle.ports.proofs.Sets.{set-false, and-first}
 use Rattle.management.specs.declared.Setting.{Setting}
 use Rattle.management.specs.declared.Setting.the-variants.{AlternateAui, AlternateTp, DisableAui, EnableAui, DisableTp, EnableTp, LinkTestOff, LinkTestOn}
 use Rattle.management.specs.declared.Query.{Query}
-use Rattle.management.specs.Status.{marked, clearedBy}
+use Rattle.management.specs.Status.{clearedBy}
 use Rattle.port.specs.declared.Port.{Port}
 use Rattle.port.specs.declared.Meeting.{Meeting}
 use Rattle.port.specs.declared.Change.{Change}
@@ -36,38 +36,33 @@ use Rattle.burst.specs.declared.Bus.{Bus}
 use Rattle.burst.specs.declared.Hearing.{Hearing}
 use Rattle.burst.specs.declared.Effect.{Effect}
 use Rattle.burst.specs.Burst.{effectOf}
-use Rattle.burst.specs.Clean.{cleanAt, reconnectingAt}
-use Rattle.burst.specs.Marks.{marksOf}
+use Rattle.burst.specs.Clean.{lastingAt, reconnectingAt}
+use Rattle.burst.proofs.CleanLaws.{collided-lasts-not}
 use Rattle.repeater.specs.declared.Repeater.{Repeater}
 use Rattle.repeater.specs.declared.Those.the-variants.{Transmitting}
-use Rattle.repeater.specs.Door.{placesOf, portAt, eachPort}
+use Rattle.repeater.specs.Door.{placesOf, portAt}
 use Rattle.repeater.specs.Reset.{powerUp}
 use Rattle.repeater.specs.Hearing.{inT, hearingOf, meetingOf}
-use Rattle.repeater.specs.Repeater.{quieted, alternateFor, partitionedAt, portAfter, followed, burstOf, changedAt, changedTp, setTo, gotOf, among}
+use Rattle.repeater.specs.Repeater.{quieted, partitionedAt, metAt, followed, burstOf, changedAt, changedTp, setTo, gotOf, among}
 use Rattle.repeater.specs.Events as event
 use Rattle.repeater.specs.Events.{standingAt, followedEvent, burstEvent, disables, setEvent, Input, burst, setting, query, reset}
 use Rattle.repeater.specs.Events.{afterInput, inputEvent, afterInputs, inputEvents}
-use Rattle.repeater.proofs.DoorLaws.{port-past, port-each, port-put, put-keeps, port-status, port-alternate, up-keeps, past-among}
+use Rattle.repeater.proofs.DoorLaws.{port-past, port-put, put-keeps, port-status, port-alternate, up-keeps, past-among}
 use Rattle.repeater.proofs.Kept as kept
-use Rattle.repeater.proofs.Kept.{places-bursted}
+use Rattle.repeater.proofs.Kept.{places-bursted, port-followed}
 
 -- WHAT A BURST IS TO A PORT
 
-collided-unclean : (hearing : Hearing) (effect : Effect) (i : ℕ) → has (effect .collided) i ≡ true → cleanAt hearing effect i ≡ false
-unfolding cleanAt
-collided-unclean hearing effect i h = simp (h, and-false)
+module _ (r : Repeater) (bus : Bus) (hearing : Hearing) (activity : Activity) (i : ℕ) where
+  abbrev effect : Effect
+  effect = effectOf bus hearing activity
 
-module _ (hearing : Hearing) (effect : Effect) (activity : Activity) (alternate : Bool) (i : ℕ) where
-  abbrev cleanSet : ℕ
-  cleanSet = setOf (cleanAt hearing effect)
-
-  reconnecting-clean : reconnectingAt effect activity cleanSet alternate i ≡ true → has cleanSet i ≡ true
-  unfolding reconnectingAt
-  reconnecting-clean h = and-first _ _ (and-first _ _ h)
-
-  pub fair : Fair (meetingOf effect activity cleanSet alternate i)
-  unfolding meetingOf
-  fair = record { apart = λ h. set-false (cleanAt hearing effect) i (collided-unclean hearing effect i h); long = λ h. reconnecting-clean h }
+  pub fair : Fair (metAt r bus hearing activity i)
+  unfolding metAt meetingOf reconnectingAt
+  fair = record {
+    apart = λ h. set-false (lastingAt hearing effect activity) i (collided-lasts-not hearing effect activity i h);
+    long = λ h. and-first _ _ h;
+  }
 
 -- BURSTS
 
@@ -81,17 +76,13 @@ module _ (r : Repeater) (bus : Bus) (hearing : Hearing) (activity : Activity) wh
   -- a hearing from elsewhere may have places in T that are no ports
   pub followed-moves : (i : ℕ) → i < placesOf r
       → standingAt (followed r bus hearing activity .repeater) i ≡ afterEvent (standingAt r i) (followedEvent r bus hearing activity i)
-  unfolding followed portAfter followedEvent
+  unfolding followedEvent
   followed-moves i h =
-      let effect = effectOf bus hearing activity in
-      let clean = setOf (cleanAt hearing effect) in
-      let alternate = alternateFor (r .«alternate_aui») (r .«alternate_tp») i in
-      let after = portAfter (r .«alternate_aui») (r .«alternate_tp») hearing effect activity clean in
-      let m = meetingOf effect activity clean alternate i in
+      let m = metAt r bus hearing activity i in
       let p = portAt r i in
-      ap standingOf (port-status (eachPort after r) (marked (r .status) (marksOf effect activity)) i ∙ port-each r after i h)
+      ap standingOf (port-followed r bus hearing activity i h)
       ∙ revived-at-keeps standingOf linkless (activity .mask) i (partitionedAt (hearing .t) m i p)
-      ∙ stepped (hearing .t) m i p (fair hearing effect activity alternate i) (has (hearing .t) i) refl
+      ∙ stepped (hearing .t) m i p (fair r bus hearing activity i) (has (hearing .t) i) refl
 
 module _ (r : Repeater) (activity : Activity) (i : ℕ) where
   past-event : placesOf r ≤ i → burstEvent r activity i ≡ neither

@@ -15,7 +15,7 @@ use Rattle.port.specs.Link.{revivedAt}
 use Rattle.burst.specs.declared.Activity.{Activity}
 use Rattle.burst.specs.declared.Hearing.{Hearing}
 use Rattle.burst.specs.declared.Effect.{Effect}
-use Rattle.burst.specs.Clean.{cleanAt, reconnectingAt}
+use Rattle.burst.specs.Clean.{lastingAt, reconnectingAt}
 use Rattle.store.specs.declared.Ports.{Ports}
 use Rattle.store.specs.declared.Meetings.{Meetings}
 use Rattle.store.specs.Door.{eachIn, metIn}
@@ -42,26 +42,26 @@ algorithms-made a t one rest l m o e =
     go false false true = refl
     go false false false = refl
 
-module _ (forAui forTp : Bool) (hearing : Hearing) (effect : Effect) (activity : Activity) (clean backAui backTp back : ℕ) where
+module _ (forAui forTp : Bool) (hearing : Hearing) (effect : Effect) (activity : Activity) (lasting backAui backTp back : ℕ) where
   abbrev Back : ℕ → Bool → Type 0
-  Back back alternate = back ≡ setOf (reconnectingAt effect activity clean alternate)
+  Back back alternate = back ≡ setOf (reconnectingAt effect lasting alternate)
 
-  module _ (c : clean ≡ setOf (cleanAt hearing effect)) (u : Back backAui forAui) (v : Back backTp forTp)
+  module _ (c : lasting ≡ setOf (lastingAt hearing effect activity)) (u : Back backAui forAui) (v : Back backTp forTp)
       (b : back ≡ setOf (λ i. cond (eqb i aui) (has backAui i) (has backTp i))) where
-    -- no place past the last of a mask is clean
-    past : (i : ℕ) → 16 ≤ i → (alternate : Bool) → reconnectingAt effect activity clean alternate i ≡ false
+    -- no burst lasts for a place past the last of a mask
+    past : (i : ℕ) → 16 ≤ i → (alternate : Bool) → reconnectingAt effect lasting alternate i ≡ false
     unfolding reconnectingAt
-    past i h alternate = rw (c, gather-past 16 (cleanAt hearing effect) i h)
+    past i h alternate = rw (c, gather-past 16 (lastingAt hearing effect activity) i h)
 
-    chosen : (i : ℕ) → i < 16 → (z : Bool) → cond z (has backAui i) (has backTp i) ≡ reconnectingAt effect activity clean (cond z forAui forTp) i
-    chosen i h true = rw u (has-gather 16 (reconnectingAt effect activity clean forAui) i h)
-    chosen i h false = rw v (has-gather 16 (reconnectingAt effect activity clean forTp) i h)
+    chosen : (i : ℕ) → i < 16 → (z : Bool) → cond z (has backAui i) (has backTp i) ≡ reconnectingAt effect lasting (cond z forAui forTp) i
+    chosen i h true = rw u (has-gather 16 (reconnectingAt effect lasting forAui) i h)
+    chosen i h false = rw v (has-gather 16 (reconnectingAt effect lasting forTp) i h)
 
-    back-at : (i : ℕ) → has back i ≡ reconnectingAt effect activity clean (alternateFor forAui forTp i) i
+    back-at : (i : ℕ) → has back i ≡ reconnectingAt effect lasting (alternateFor forAui forTp i) i
     unfolding alternateFor
     back-at i = go (leb 16 i) refl
       where
-        go : (z : Bool) → leb 16 i ≡ z → has back i ≡ reconnectingAt effect activity clean (alternateFor forAui forTp i) i
+        go : (z : Bool) → leb 16 i ≡ z → has back i ≡ reconnectingAt effect lasting (alternateFor forAui forTp i) i
         go true e =
             let h = leb-true 16 i e in
             rw b (gather-past 16 (λ j. cond (eqb j aui) (has backAui j) (has backTp j)) i h) ∙ sym (past i h (alternateFor forAui forTp i))
@@ -70,16 +70,16 @@ module _ (forAui forTp : Bool) (hearing : Hearing) (effect : Effect) (activity :
             rw b (has-gather 16 (λ j. cond (eqb j aui) (has backAui j) (has backTp j)) i h) ∙ chosen i h (eqb i aui)
 
     abbrev meetings : Meetings
-    meetings = record { t = hearing .t; collided = effect .collided; clean = clean; back = back; x = activity .x }
+    meetings = record { t = hearing .t; collided = effect .collided; clean = lasting; back = back; x = activity .x }
 
     one-port : (i : ℕ) (p : Port)
-        → revivedAt (activity .mask) i (metIn meetings i p) ≡ portAfter forAui forTp hearing effect activity (setOf (cleanAt hearing effect)) i p
+        → revivedAt (activity .mask) i (metIn meetings i p) ≡ portAfter forAui forTp hearing effect activity (setOf (lastingAt hearing effect activity)) i p
     unfolding metIn portAfter partitionedAt meetingOf
     one-port i p = rw (back-at i, ← c)
 
     pub after-made : (s met after : Ports) → met ≡ eachIn (metIn meetings) s → after ≡ eachIn (revivedAt (activity .mask)) met
-        → after ≡ eachIn (portAfter forAui forTp hearing effect activity (setOf (cleanAt hearing effect))) s
+        → after ≡ eachIn (portAfter forAui forTp hearing effect activity (setOf (lastingAt hearing effect activity))) s
     after-made s met after m a =
         rw (a, m) (each-then (metIn meetings) (revivedAt (activity .mask)) s)
         ∙ same-each (λ i p. revivedAt (activity .mask) i (metIn meetings i p))
-        (portAfter forAui forTp hearing effect activity (setOf (cleanAt hearing effect))) s one-port
+        (portAfter forAui forTp hearing effect activity (setOf (lastingAt hearing effect activity))) s one-port

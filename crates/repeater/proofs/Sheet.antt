@@ -1,5 +1,6 @@
 -- The boundary sheet and the shortcuts, computed on whole repeaters from power-up: each table is one equation. Assumes nothing.
 --   sheet-holds          == every row of the boundary sheet that the repeater decides
+--   fragments-hold       == the rows on short and long clean bursts
 --   shortcuts-hold       == the rows against two shortcuts
 --   links-hold           == the rows on links
 --   scenes-follow        == what follows from a burst, case by case; data goes out to partitioned ports as well
@@ -10,7 +11,7 @@ use mathlib.Core.List.{List, map}
 use Rattle.port.specs.Standing.{eventOf}
 use Rattle.repeater.specs.Reset.{powerUp}
 use Rattle.repeater.specs.Events.{followedEvent, burstEvent, disables, setEvent, inputEvents}
-use Rattle.repeater.specs.Sheet.{Row, found, Scene, followedBy, Order, ordered, sheet, shortcuts, links, scenes, orders, story, told}
+use Rattle.repeater.specs.Sheet.{Row, found, Scene, followedBy, Order, ordered, sheet, fragments, shortcuts, links, scenes, orders, story, told}
 use Rattle.repeater.proofs.Computing.{repeating}
 
 -- the wanted of every row
@@ -27,9 +28,9 @@ pub orders-kept : Ordered orders
 unfolding repeating
 orders-kept = refl
 
-computed : Holds sheet × Holds shortcuts × Holds links × Followed scenes × (inputEvents 0 powerUp story ≡ told)
+computed : Holds sheet × Holds shortcuts × Holds links × Followed scenes × (inputEvents 0 powerUp story ≡ told) × Holds fragments
 unfolding repeating eventOf followedEvent burstEvent disables setEvent
-computed = (refl, refl, refl, refl, refl)
+computed = (refl, refl, refl, refl, refl, refl)
 
 pub sheet-holds : Holds sheet
 sheet-holds = computed .0
@@ -45,3 +46,6 @@ scenes-follow = computed .3
 
 pub story-told : inputEvents 0 powerUp story ≡ told
 story-told = computed .4
+
+pub fragments-hold : Holds fragments
+fragments-hold = computed .5

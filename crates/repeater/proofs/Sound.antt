@@ -12,13 +12,13 @@ use borrow.Author.Tests.{eqb-true, ltb-true}
 use lib.Dec.{eqb, ltb, lit<}
 use Rattle.ports.specs.declared.Quiet.{Quiet}
 use Rattle.ports.specs.declared.Quiet.the-variants.{Pulse, Tick}
-use Rattle.ports.specs.Sets.{aui, portCount, has, setOf}
+use Rattle.ports.specs.Sets.{aui, portCount, has}
 use Rattle.ports.proofs.Sets.{and-first}
 use Rattle.management.specs.declared.Setting.{Setting}
 use Rattle.management.specs.declared.Setting.the-variants.{AlternateAui, AlternateTp, DisableAui, EnableAui, DisableTp, EnableTp, LinkTestOff, LinkTestOn}
 use Rattle.management.specs.declared.Query.{Query}
 use Rattle.management.specs.declared.Status.{Status}
-use Rattle.management.specs.Status.{marked, clearedBy}
+use Rattle.management.specs.Status.{clearedBy}
 use Rattle.port.specs.declared.Port.{Port}
 use Rattle.port.specs.declared.Meeting.{Meeting}
 use Rattle.port.specs.declared.Change.{Change}
@@ -30,19 +30,17 @@ use Rattle.port.proofs.Sound.{ticked-at-sound, pulsed-at-sound, revived-at-soun
 use Rattle.burst.specs.declared.Activity.{Activity}
 use Rattle.burst.specs.declared.Bus.{Bus}
 use Rattle.burst.specs.declared.Hearing.{Hearing}
-use Rattle.burst.specs.Burst.{effectOf}
-use Rattle.burst.specs.Clean.{cleanAt}
-use Rattle.burst.specs.Marks.{marksOf}
 use Rattle.repeater.specs.declared.Repeater.{Repeater}
 use Rattle.repeater.specs.Door.{withStatus, withAlternate, placesOf, portAt, putAt, eachPort}
 use Rattle.repeater.specs.Reset.{powerUp}
-use Rattle.repeater.specs.Hearing.{transmits, hearingOf, meetingOf}
-use Rattle.repeater.specs.Repeater.{quietAt, quieted, alternateFor, partitionedAt, portAfter, followed, burstOf, changedAt, changedTp, setTo, gotOf}
+use Rattle.repeater.specs.Hearing.{transmits, hearingOf}
+use Rattle.repeater.specs.Repeater.{quietAt, quieted, partitionedAt, metAt, followed, burstOf, changedAt, changedTp, setTo, gotOf}
 use Rattle.repeater.specs.Events.{Input, burst, quiet, setting, query, reset, afterInput, afterInputs}
 use Rattle.repeater.specs.Sound.{Sound}
 use Rattle.repeater.proofs.DoorLaws.{port-each, port-put, port-status, port-alternate, up-every}
 use Rattle.repeater.proofs.DoorLaws.{places-each, places-put, places-status, places-alternate, places-up}
 use Rattle.repeater.proofs.Hearing.{transmitting-at}
+use Rattle.repeater.proofs.Kept.{places-followed, port-followed}
 
 module _ (i : ℕ) (p : Port) (s : SoundPort i p) where
   met-at : (t : ℕ) (m : Meeting) → (has t i ≡ true → p .enabled ≡ true) → SoundPort i (partitionedAt t m i p)
@@ -86,19 +84,15 @@ module _ (r : Repeater) (s : Sound r) where
   pub sound-followed : (bus : Bus) (hearing : Hearing) (activity : Activity)
       → ((i : ℕ) → i < portCount → has (hearing .t) i ≡ true → portAt r i .enabled ≡ true)
       → Sound (followed r bus hearing activity .repeater)
-  unfolding followed portAfter
   sound-followed bus hearing activity e =
-      let a = r .«alternate_aui» in
-      let t = r .«alternate_tp» in
-      let effect = effectOf bus hearing activity in
-      let clean = setOf (cleanAt hearing effect) in
-      let after = portAfter a t hearing effect activity clean in
-      let m : ℕ → Meeting = λ i. meetingOf effect activity clean (alternateFor a t i) i in
-      status-sound (eachPort after r)
-      (each-sound r s after
-      (λ i l. revived-at-sound i (partitionedAt (hearing .t) (m i) i (portAt r i))
-      (met-at i (portAt r i) (s .port i l) (hearing .t) (m i) (e i l)) (activity .mask)))
-      (marked (r .status) (marksOf effect activity))
+      let m : ℕ → Meeting = metAt r bus hearing activity in
+      record {
+        nine = places-followed r bus hearing activity ∙ s .nine;
+        port =
+            λ i l. rw (port-followed r bus hearing activity i (rw (s .nine) l))
+            (revived-at-sound i (partitionedAt (hearing .t) (m i) i (portAt r i))
+            (met-at i (portAt r i) (s .port i l) (hearing .t) (m i) (e i l)) (activity .mask));
+      }
 
   pub sound-bursted : (activity : Activity) → Sound (burstOf r activity .repeater)
   unfolding burstOf

@@ -13,7 +13,7 @@ use mathlib.Core.Bool.{Bool, false, cond, _&&_}
 use mathlib.Core.List.{List, [], _∷_}
 use lib.Dec.{eqb, ltb}
 use Rattle.ports.specs.declared.Quiet.{Quiet}
-use Rattle.ports.specs.Sets.{aui, has, setOf}
+use Rattle.ports.specs.Sets.{aui, has}
 use Rattle.management.specs.declared.Setting.{Setting}
 use Rattle.management.specs.declared.Setting.the-variants.{AlternateAui, AlternateTp, DisableAui, EnableAui, DisableTp, EnableTp, LinkTestOff, LinkTestOn}
 use Rattle.management.specs.declared.Query.{Query}
@@ -22,23 +22,17 @@ use Rattle.port.specs.Standing.{standingOf, eventOf}
 use Rattle.burst.specs.declared.Activity.{Activity}
 use Rattle.burst.specs.declared.Bus.{Bus}
 use Rattle.burst.specs.declared.Hearing.{Hearing}
-use Rattle.burst.specs.declared.Effect.{Effect}
-use Rattle.burst.specs.Burst.{effectOf}
-use Rattle.burst.specs.Clean.{cleanAt}
 use Rattle.repeater.specs.declared.Repeater.{Repeater}
 use Rattle.repeater.specs.Door.{portAt}
 use Rattle.repeater.specs.Reset.{powerUp}
-use Rattle.repeater.specs.Hearing.{hearingOf, meetingOf}
-use Rattle.repeater.specs.Repeater.{quieted, alternateFor, burstOf, setTo, gotOf}
+use Rattle.repeater.specs.Hearing.{hearingOf}
+use Rattle.repeater.specs.Repeater.{quieted, metAt, burstOf, setTo, gotOf}
 
 abbrev pub standingAt : Repeater → ℕ → Standing
 standingAt r i = standingOf (portAt r i)
 
 unfoldable pub followedEvent : Repeater → Bus → Hearing → Activity → ℕ → Event
-followedEvent r bus hearing activity i =
-    let effect : Effect = effectOf bus hearing activity in
-    let alternate : Bool = alternateFor (r .«alternate_aui») (r .«alternate_tp») i in
-    cond (has (hearing .t) i) (eventOf (meetingOf effect activity (setOf (cleanAt hearing effect)) alternate i)) neither
+followedEvent r bus hearing activity i = cond (has (hearing .t) i) (eventOf (metAt r bus hearing activity i)) neither
 
 unfoldable pub burstEvent : Repeater → Activity → ℕ → Event
 burstEvent r activity i = followedEvent r Bus.Nothing (hearingOf r activity) activity i

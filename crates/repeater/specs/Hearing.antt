@@ -3,8 +3,8 @@
 --   transmits i p, listens i p == port p at place i is in T, in L
 --   inT r i, inL r i, inH r activity i == the port at place i is in T, L, H
 --   hearingOf r activity       == the sets as masks, and what is heard
---   meetingOf effect activity clean alternate i == what the burst is for port i: collided, clean, reconnecting, and the collision's length;
---                                 clean is the set of the ports that it is clean for
+--   meetingOf effect activity lasting alternate i == what the burst is for port i: collided, clean, reconnecting, and the collision's length;
+--                                 lasting is the set of the ports that it is clean for and lasts, and no other clean burst is one for a port
 -- Assumes nothing.
 use Prim.Native.Nat.{ℕ}
 use mathlib.Core.Bool.{Bool, not, _&&_, _||_}
@@ -43,5 +43,5 @@ hearingOf r activity =
     record { e = setOf (inE activity); t = setOf (inT r); h = setOf (inH r activity); heard = heardOf (setOf (inH r activity)) }
 
 unfoldable pub meetingOf : Effect → Activity → ℕ → Bool → ℕ → Meeting
-meetingOf effect activity clean alternate i =
-    record { collided = has (effect .collided) i; clean = has clean i; reconnecting = reconnectingAt effect activity clean alternate i; x = activity .x }
+meetingOf effect activity lasting alternate i =
+    record { collided = has (effect .collided) i; clean = has lasting i; reconnecting = reconnectingAt effect lasting alternate i; x = activity .x }

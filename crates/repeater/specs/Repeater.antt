@@ -3,6 +3,7 @@
 --   alternateFor               == whether port i goes by the alternate algorithm, of AUI's setting and the TP ports'
 --   partitionedAt              == a port after its partition step, if it is in T
 --   portAfter                  == a port after a burst: its partition step, then its link if the mask has it
+--   metAt r bus hearing activity i  == what a burst is for port i, by the algorithm that the port goes by
 --   followed r bus hearing activity == what follows from a hearing, wherever it comes from
 --   burstOf r activity         == after a burst, with what was heard, what followed and the status bits it set
 --   changedAt, changedTp       == after a change of the port at place i, and of TP port i
@@ -33,7 +34,7 @@ use Rattle.burst.specs.declared.Bus.{Bus}
 use Rattle.burst.specs.declared.Hearing.{Hearing}
 use Rattle.burst.specs.declared.Effect.{Effect}
 use Rattle.burst.specs.Burst.{effectOf}
-use Rattle.burst.specs.Clean.{cleanAt}
+use Rattle.burst.specs.Clean.{lastingAt}
 use Rattle.burst.specs.Marks.{marksOf}
 use Rattle.repeater.specs.declared.Repeater.{Repeater}
 use Rattle.repeater.specs.declared.Bursted.{Bursted}
@@ -58,15 +59,20 @@ unfoldable pub partitionedAt : ℕ → Meeting → ℕ → Port → Port
 partitionedAt t meeting i p = cond (has t i) (afterMeeting meeting p) p
 
 unfoldable pub portAfter : Bool → Bool → Hearing → Effect → Activity → ℕ → ℕ → Port → Port
-portAfter forAui forTp hearing effect activity clean i p =
-    revivedAt (activity .mask) i (partitionedAt (hearing .t) (meetingOf effect activity clean (alternateFor forAui forTp i) i) i p)
+portAfter forAui forTp hearing effect activity lasting i p =
+    revivedAt (activity .mask) i (partitionedAt (hearing .t) (meetingOf effect activity lasting (alternateFor forAui forTp i) i) i p)
+
+unfoldable pub metAt : Repeater → Bus → Hearing → Activity → ℕ → Meeting
+metAt r bus hearing activity i =
+    let effect : Effect = effectOf bus hearing activity in
+    meetingOf effect activity (setOf (lastingAt hearing effect activity)) (alternateFor (r .«alternate_aui») (r .«alternate_tp») i) i
 
 unfoldable pub followed : Repeater → Bus → Hearing → Activity → Bursted
 followed r bus hearing activity =
     let effect : Effect = effectOf bus hearing activity in
-    let clean : ℕ = setOf (cleanAt hearing effect) in
+    let lasting : ℕ = setOf (lastingAt hearing effect activity) in
     let marks : Status = marksOf effect activity in
-    let after : Repeater = eachPort (portAfter (r .«alternate_aui») (r .«alternate_tp») hearing effect activity clean) r in
+    let after : Repeater = eachPort (portAfter (r .«alternate_aui») (r .«alternate_tp») hearing effect activity lasting) r in
     record { repeater = withStatus after (marked (r .status) marks); hearing = hearing; effect = effect; marks = marks }
 
 unfoldable pub burstOf : Repeater → Activity → Bursted

@@ -7,6 +7,7 @@
 --   passing       == four link pulses: the links of TP0, TP1 and TP2 pass
 --   Row, found    == a row of a table; how its port stands
 --   sheet         == the boundary sheet: reconnecting, the collision's length, the number of collisions, ticks
+--   fragments     == Q-2: which clean bursts zero a count
 --   shortcuts     == a partitioned port is sent to, and jam is not clean
 --   links         == the link rules and the Sets at their boundaries
 --   Scene, scenes == a burst after some inputs, and the word, the ports sent to and the ports that collide: every case of 'Burst'
@@ -86,6 +87,29 @@ sheet =
     ∷ row (passing ++ replicate 32 (collision 300)) 0 partitioned true
     ∷ row (passing ++ replicate 99 tick) 0 (connected 0) true
     ∷ row (passing ++ replicate 100 tick) 0 (connected 0) false
+    ∷ []
+
+-- 31 collisions, and then a burst that is clean for TP0: of 512 bit times it leaves the count, sent (AUI) or received (TP0), and one collision more
+-- partitions; of 513 it zeroes the count, by the alternate algorithm too and whether data was sent to the port or it was only active. Short ones may
+-- stand anywhere among the 32. The last row has a partition in front of them
+abbrev pub counted : List Input
+counted = passing ++ replicate 31 (collision 300)
+
+abbrev pub fragments : List Row
+fragments =
+    row (counted ++ (active 0b100000000 512 0 ∷ [])) 0 (connected 31) true
+    ∷ row (counted ++ (active 0b100000000 512 0 ∷ collision 300 ∷ [])) 0 partitioned true
+    ∷ row (counted ++ (active 0b100000000 513 0 ∷ [])) 0 (connected 0) true
+    ∷ row (counted ++ (active 0b100000000 513 0 ∷ collision 300 ∷ [])) 0 (connected 1) true
+    ∷ row (counted ++ (active 0b001 512 0 ∷ [])) 0 (connected 31) true
+    ∷ row (counted ++ (active 0b001 512 0 ∷ collision 300 ∷ [])) 0 partitioned true
+    ∷ row (counted ++ (active 0b001 513 0 ∷ collision 300 ∷ [])) 0 (connected 1) true
+    ∷ row (setting AlternateTp ∷ counted ++ (active 0b001 512 0 ∷ collision 300 ∷ [])) 0 partitioned true
+    ∷ row (setting AlternateTp ∷ counted ++ (active 0b001 513 0 ∷ collision 300 ∷ [])) 0 (connected 1) true
+    ∷ row (setting AlternateTp ∷ counted ++ (active 0b001 513 0 ∷ collision 300 ∷ [])) 1 (connected 1) true
+    ∷ row (passing ++ replicate 16 (collision 300) ++ (active 0b100 512 0 ∷ active 0b001 1 0 ∷ replicate 16 (collision 300))) 0 partitioned true
+    ∷ row (passing ++ replicate 16 (collision 300) ++ (active 0b100 513 0 ∷ replicate 31 (collision 300))) 0 (connected 31) true
+    ∷ row (parted ++ (active 0b100 512 0 ∷ active 0b100 513 0 ∷ replicate 31 (collision 300) ++ (active 0b001 512 0 ∷ []))) 0 (connected 31) true
     ∷ []
 
 -- TP0 is partitioned and goes by the alternate algorithm: its own activity does not reconnect it, and data sent to it does. After 31 collisions TP2, or
@@ -197,12 +221,12 @@ orders =
     ∷ order parted (activityOf 0b000000110 false false 2000 300) 0b100000111 0b000000100 0b00000111 0b000000010
     ∷ []
 
--- one input of each kind that matters to a port's history, and what each is to TP0: after the link pulses it collides, is heard alone, is sent jam, is
--- disabled, is disabled once more, is active while it is disabled, and is reset
+-- one input of each kind that matters to a port's history, and what each is to TP0: after the link pulses it collides, is heard alone for 512 bit times
+-- and for longer, is sent jam, is disabled, is disabled once more, is active while it is disabled, and is reset
 abbrev pub story : List Input
 story =
     passing
-    ++ (collision 300 ∷ active 0b001 2000 0 ∷ mistimed 0b100 2000 ∷ setting (DisableTp 0) ∷ setting (DisableTp 0) ∷ collision 300 ∷ reset ∷ [])
+    ++ (collision 300 ∷ active 0b001 512 0 ∷ active 0b001 2000 0 ∷ mistimed 0b100 2000 ∷ setting (DisableTp 0) ∷ setting (DisableTp 0) ∷ collision 300 ∷ reset ∷ [])
 
 abbrev pub told : List Event
-told = replicate 4 neither ++ (collided 300 ∷ clean true ∷ neither ∷ cleared ∷ neither ∷ neither ∷ cleared ∷ [])
+told = replicate 4 neither ++ (collided 300 ∷ neither ∷ clean true ∷ neither ∷ cleared ∷ neither ∷ neither ∷ cleared ∷ [])

@@ -6,7 +6,7 @@ ghost use mathlib.Core.Bool.{cond, _&&_};
 ghost use lib.Dec.{eqb, ltb};
 ghost use Rattle.ports.specs.Sets.{aui, has, setOf};
 ghost use Rattle.port.specs.Link.{tickedAt, pulsedAt};
-ghost use Rattle.burst.specs.Clean.{cleanAt};
+ghost use Rattle.burst.specs.Clean.{lastingAt};
 ghost use Rattle.store.specs.Door.{portIn, eachIn};
 ghost use Rattle.repeater.specs.Door.{portAt, putAt, eachPort};
 ghost use Rattle.repeater.specs.Reset.{powerUp};
@@ -95,15 +95,15 @@ fn ports_after(
     effect: Effect,
     activity: Activity,
 ) -> Ports
-    ensures { λ r. ⌜ r ≡ eachIn (portAfter «for_aui» «for_tp» hearing effect activity (setOf (cleanAt hearing effect))) ports ⌝ }
+    ensures { λ r. ⌜ r ≡ eachIn (portAfter «for_aui» «for_tp» hearing effect activity (setOf (lastingAt hearing effect activity))) ports ⌝ }
 {
-    let clean = effect.clean(hearing);
-    let back_aui = effect.reconnecting(clean, activity, for_aui);
-    let back_tp = effect.reconnecting(clean, activity, for_tp);
+    let lasting = effect.lasting(hearing, activity);
+    let back_aui = effect.reconnecting(lasting, for_aui);
+    let back_tp = effect.reconnecting(lasting, for_tp);
     let met = ports.meet(Meetings {
         t: hearing.t,
         collided: effect.collided,
-        clean: clean,
+        clean: lasting,
         back: algorithms(back_aui, back_tp),
         x: activity.x,
     });

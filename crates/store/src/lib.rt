@@ -30,7 +30,7 @@ pub struct Ports {
     pub rows: [Row; ports::COUNT],
 }
 
-// What a burst is for the ports: those sent to, those that collide, those that it is clean for, those that it connects again; and how long the
+// What a burst is for the ports: those sent to, those that collide, those that it is clean for and lasts, those that it connects again; and how long the
 // collision was.
 pub struct Meetings {
     pub t: u16,

@@ -3,8 +3,8 @@ use borrow.Author.Needs.{needs}
 use Rattle.repeater.proofs.ports_after.Statement.{statement}
 use Rattle.repeater.proofs.ports_after.Tie as tie
 
-clean-requires : tie.Need-clean-requires
-clean-requires c κs = search needs
+lasting-requires : tie.Need-lasting-requires
+lasting-requires c κs = search needs
 
 reconnecting-requires : tie.Need-reconnecting-requires
 reconnecting-requires c κs = search needs
@@ -24,14 +24,14 @@ revive-requires c κs = search needs
 returns : tie.Need-returns
 returns c =
     let a = c .before .before .before .before .before .before .args in
-    after-made (a .for-aui) (a .for-tp) (a .hearing) (a .effect) (a .activity) _ _ _ _ (c .before .before .before .before .before .clean .ensures) (c .before .before .before .before .reconnecting .ensures)
+    after-made (a .for-aui) (a .for-tp) (a .hearing) (a .effect) (a .activity) _ _ _ _ (c .before .before .before .before .before .lasting .ensures) (c .before .before .before .before .reconnecting .ensures)
     (c .before .before .before .reconnecting2 .ensures) (c .before .before .algorithms .ensures) _ _ _ (c .before .meet .ensures) (c .revive .ensures)
 
 pub ports-after-spec : {M : Type 1} → statement M
 ports-after-spec =
     tie.close
     (tie.spec
-    clean-requires
+    lasting-requires
     reconnecting-requires
     reconnecting-requires-2
     algorithms-requires
