@@ -34,7 +34,7 @@ UNSEEN = {
     35: 'the numbers wrap after 2^64 records',
 }
 # entry: constants of which the code has one each
-ONCE = {37: ('SHORT_BELOW', 'PARTITIONS_AT', 'LATE_ABOVE', 'RECONNECTS_ABOVE', 'JABBER_ABOVE')}
+ONCE = {37: ('SHORT_BELOW', 'PARTITIONS_AT', 'LATE_ABOVE', 'LASTING_ABOVE', 'JABBER_ABOVE')}
 
 
 class Entry:

@@ -239,20 +239,29 @@ rule('collided_is_clean', 'Partition', 'A burst is not clean for a port that col
 rule('clean_by_activity_alone', 'Partition', 'A burst is clean for a port that was active or was sent data.', 'that was active',
      *both('burst', 'Clean', '(has (hearing .e) i || dataTo effect i)', 'has (hearing .e) i',
            'lib', 'ports::less(hearing.e | self.data(), self.collided)', 'ports::less(hearing.e, self.collided)'))
-rule('clean_keeps_the_count', 'Partition', 'A clean burst makes the count 0.', 'it stays',
+rule('clean_keeps_the_count', 'Partition, Q-2', 'A clean burst above 512 makes the count 0.', 'it stays',
      ('port/specs/Partition.antt', '(cond (meeting .clean) (withCount p 0) p))', 'p)'),
      ('port/src/lib.rt', '        if meeting.clean {\n            self.count = 0;\n            return self;\n        }\n', ''))
-rule('reconnects_at_512', 'Partition', 'A clean burst above 512 reconnects.', 'above 511',
-     *both('burst', 'Clean', 'reconnectsAbove = 512', 'reconnectsAbove = 511', 'lib', 'if Port::RECONNECTS_ABOVE < activity.d {', 'if 511 < activity.d {'))
+rule('lasting_at_512', 'Partition, Q-2', 'A clean burst above 512 zeroes the count, or reconnects.', 'above 511',
+     *both('burst', 'Clean', 'lastingAbove = 512', 'lastingAbove = 511', 'lib', 'if Port::LASTING_ABOVE < activity.d {', 'if 511 < activity.d {'))
+rule('fragment_lasts', 'Partition, Q-2', 'A clean burst of 512 or less leaves the count, and reconnects nobody.', 'one of any length does what a long one does',
+     *both('burst', 'Clean', 'lastingAbove = 512', 'lastingAbove = 0', 'lib', 'if Port::LASTING_ABOVE < activity.d {', 'if 0 < activity.d {'))
+rule('only_data_sent_zeroes', 'Partition, Q-2', "By the alternate algorithm too a port's own activity zeroes its count.", 'only data that is sent to it does',
+     *both('repeater', 'Hearing', 'clean = has lasting i; reconnecting', 'clean = reconnectingAt effect lasting alternate i; reconnecting', 'lib', 'clean: lasting,', 'clean: back,'),
+     ('repeater/proofs/MeetingLaws.antt', 'clean = lasting; back = back;', 'clean = back; back = back;'),
+     ('repeater/proofs/Events.antt', 'apart = λ h. set-false (lastingAt hearing effect activity) i (collided-lasts-not hearing effect activity i h);',
+      'apart = λ h. rw (set-false (lastingAt hearing effect activity) i (collided-lasts-not hearing effect activity i h));'),
+     ('repeater/proofs/Events.antt', 'long = λ h. and-first _ _ h;', 'long = λ h. h;'))
 rule('alternate_as_standard', 'Partition', 'By the alternate algorithm only data sent to the port reconnects it.', 'its own activity does too',
      ('burst/specs/Clean.antt', '(not alternate || dataTo effect i)', '(true || dataTo effect i)'),
-     ('burst/src/lib.rt', 'return clean & self.data();', 'let sent = self.data(); return clean;'),
+     ('burst/src/lib.rt', 'return lasting & self.data();', 'let sent = self.data(); return lasting;'),
      ('burst/proofs/Effect/reconnecting/Proof.antt',
-      'both-set (reconnectingAt (a .self) (a .activity) (a .clean) (a .alternate)) (dataTo (a .self)) (a .clean) _ (omega arith) (c .«data» .ensures)',
-      'same-set (reconnectingAt (a .self) (a .activity) (a .clean) (a .alternate)) _ (omega arith)'))
+      'both-set (reconnectingAt (a .self) (a .lasting) (a .alternate)) (dataTo (a .self)) (a .lasting) _ (omega arith) (c .«data» .ensures)',
+      'same-set (reconnectingAt (a .self) (a .lasting) (a .alternate)) _ (omega arith)'),
+     ('burst/proofs/Effect/reconnecting/Proof.antt', '(λ i. simp (c .before .if1 .taken))', '(λ i. simp and-true)'))
 rule('algorithms_exchanged', 'Partition', "AUI goes by its own algorithm, the TP ports by theirs.", 'the other way round',
      *both('repeater', 'Repeater', 'alternateFor forAui forTp i = cond (eqb i aui) forAui forTp', 'alternateFor forAui forTp i = cond (eqb i aui) forTp forAui',
-           'lib', 'algorithms(back_aui, back_tp),', 'algorithms(back_tp, back_aui),'))
+           'lib', 'algorithms(back_aui, back_tp);', 'algorithms(back_tp, back_aui);'))
 rule('ports_outside_t_counted', 'Partition', 'A port outside T keeps state and count.', 'every port takes the step',
      *both('repeater', 'Repeater', 'partitionedAt t meeting i p = cond (has t i) (afterMeeting meeting p) p', 'partitionedAt t meeting i p = afterMeeting meeting p',
            'lib', 't: hearing.t,', 't: ports::ALL,'))

@@ -34,6 +34,7 @@ use Rattle.himib.proofs.StepLaws.{burst-consistent, counter-addressed, proper-a
 use Rattle.himib.specs.Runs.{Point, happening, Given, ifBurst, repeaterAt, counterAt, transmitCollisions, totalOctets, runOf}
 use Rattle.pass.specs.Judged.{happens, run}
 use Rattle.pass.specs.Pass.{credit, collisionCredit, octetCredit}
+use Rattle.pass.proofs.Boundaries
 use Rattle.pass.proofs.Instances
 
 abbrev pub Fit : Point → Type 0

@@ -1,5 +1,6 @@
 -- Proofs that the statements of specs/Pass.antt hold.
 pub mod Computing
+pub mod Boundaries
 pub mod Accesses
 pub mod Enabled
 pub mod Partition

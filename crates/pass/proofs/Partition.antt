@@ -7,7 +7,7 @@
 use Prim.Native.Nat.{ℕ, _<_}
 use mathlib.Core.Path.{_≡_, refl, sym, ap, _∙_}
 use mathlib.Core.Bool.{Bool, true, false, cond, not, _&&_, _||_, and-not-self, true≢false}
-use mathlib.Core.List.{List, [], _∷_, _++_, map}
+use mathlib.Core.List.{List, [], map}
 use native.Mathlib.Omega.{arith}
 use lib.Dec.{eqb, lit<, lit≤}
 use lib.ListN.{replicate}
@@ -18,9 +18,8 @@ use Rattle.record.specs.declared.Asked.{Asked}
 use Rattle.record.specs.declared.Asked.the-variants as ask
 use Rattle.record.specs.Refusals.{recordOf}
 use Rattle.record.specs.Accepted.{kindNumber}
-use Rattle.record.specs.Records.{noAddress, burstRecord, pulseRecord, cWriteRecord, dWriteRecord, resetRecord}
 use Rattle.history.specs.History.{Event, collided, neither, cleared, Standing, connected, partitioned, afterEvent}
-use Rattle.history.specs.History.{since, Struck, long, many, isPartitioned, struck}
+use Rattle.history.specs.History.{since, Struck, long, many, isPartitioned}
 use Rattle.history.proofs.Past.{Keeps, told-exactly}
 use Rattle.port.specs.declared.Port.{Port}
 use Rattle.port.specs.Standing.{standingOf, eventOf}
@@ -41,105 +40,18 @@ use Rattle.chip.specs.Chip.{moved}
 use Rattle.access.specs.Access.{cReadOf, dReadOf, dWriteOf, obeyed, served}
 use Rattle.himib.specs.Bursts.{activityOf, burstCore, notedOn, burstOn}
 use Rattle.himib.specs.Step.{taken, stepOf}
-use Rattle.himib.specs.Runs.{Point, Happening, happening, start, ifBurst, repeaterAt, partitionedAt, historyOf, runOf}
-use Rattle.himib.proofs.Runs.{found, foundAfter, found-once, found-after-once}
+use Rattle.himib.specs.Runs.{Point, happening, start, ifBurst, repeaterAt, historyOf, runOf}
 use Rattle.pass.specs.Judged.{happens, history, run}
 use Rattle.pass.specs.Pass.{eventAt, PartitionByPast}
 use Rattle.pass.specs.Examples.{up}
 use Rattle.pass.proofs.Computing.{step-computes}
+use Rattle.pass.proofs.Boundaries.{crowded, signalled, TpBoundaries, FragmentBoundaries, AuiBoundaries, LongBoundary}
+use Rattle.pass.proofs.Boundaries.{tp-boundaries, fragment-boundaries, aui-boundaries, long-boundary}
 use Rattle.record.proofs.KindLaws.{quiet-is-no, access-is-no}
 use Rattle.pass.proofs.Accesses.{after-write, after-read}
 use Rattle.pass.proofs.Enabled.{enabledIn, enabled-at, enabled-bursted, enabled-quieted, enabled-got, enabled-set}
 
 -- AT THE BOUNDARIES
-
--- port i: partitioned or not, and whether its past since the last clearing event struck it
-abbrev told : ℕ → Point → List Happening → List Bool
-told i p hs = partitionedAt p i ∷ struck (since (map (eventAt i) hs)) ∷ []
-
-abbrev yes : List Bool
-yes = true ∷ true ∷ []
-
-abbrev no : List Bool
-no = false ∷ false ∷ []
-
--- a burst on which TP0 and TP1 collide; n of them, where the links pass
-abbrev collidedBurst : List ℕ
-collidedBurst = burstRecord 0b11 0 600 0 0 100 300 noAddress
-
-abbrev crowded : ℕ → List (List ℕ)
-crowded n = replicate 4 (pulseRecord 0b11) ++ replicate n collidedBurst
-
-abbrev crowd : List (List ℕ)
-crowd = collidedBurst ∷ []
-
--- n bursts of AUI alone with its collision signal, each for x bit times
-abbrev signalled : ℕ → ℕ → List (List ℕ)
-signalled n x = replicate n (burstRecord 0b100000000 0b00100 2000 0 0 100 x noAddress)
-
--- TP0 alone, for d bit times
-abbrev alone : ℕ → List (List ℕ)
-alone d = burstRecord 0b01 0 d 0 0 0 0 noAddress ∷ []
-
--- AUI alone, for d bit times: TP0 and TP1 are sent its data
-abbrev sent : ℕ → List (List ℕ)
-sent d = burstRecord 0b100000000 0 d 0 0 0 0 noAddress ∷ []
-
--- S is selected, and TP0 disabled through it
-abbrev disabling : List (List ℕ)
-disabling = cWriteRecord 0b11111110 ∷ dWriteRecord 0b00100000 ∷ []
-
--- TP0 and TP1
-abbrev both : Point → List Happening → List (List Bool)
-both p hs = told 0 p hs ∷ told 1 p hs ∷ []
-
--- after 31 such bursts: nothing; the 32nd; and then TP0 alone for 512 and for 513 bit times, the disabling of TP0, and a reset
-abbrev endings : List (List (List ℕ))
-endings = [] ∷ crowd ∷ (crowd ++ alone 512) ∷ (crowd ++ alone 513) ∷ (crowd ++ disabling) ∷ (crowd ++ (resetRecord ∷ [])) ∷ []
-
-abbrev TpBoundaries : Type 0
-TpBoundaries =
-    foundAfter happens both up (crowded 31) endings
-    ≡ (no ∷ no ∷ []) ∷ (yes ∷ yes ∷ []) ∷ (yes ∷ yes ∷ []) ∷ (no ∷ yes ∷ []) ∷ (no ∷ yes ∷ []) ∷ (no ∷ no ∷ []) ∷ []
-
-tp-boundaries : TpBoundaries
-unfolding step-computes runOf historyOf happening eventAt eventOf followedEvent burstEvent ifBurst
-tp-boundaries = found-after-once happens both up (crowded 31) endings refl
-
--- after 31 such bursts a clean one of 512 bit times leaves the count, and one more collision partitions; one of 513 starts anew
-abbrev fragmentEndings : List (List (List ℕ))
-fragmentEndings = sent 512 ∷ (sent 512 ++ crowd) ∷ (sent 513 ++ crowd) ∷ []
-
-abbrev stands : Point → List Happening → Standing
-stands p hs = standingAt (repeaterAt p) 0
-
-abbrev FragmentBoundaries : Type 0
-FragmentBoundaries =
-    (foundAfter happens both up (crowded 31) fragmentEndings ≡ (no ∷ no ∷ []) ∷ (yes ∷ yes ∷ []) ∷ (no ∷ no ∷ []) ∷ [])
-    × (foundAfter happens stands up (crowded 31) fragmentEndings ≡ connected 31 ∷ partitioned ∷ connected 1 ∷ [])
-
-fragment-boundaries : FragmentBoundaries
-unfolding step-computes runOf historyOf happening eventAt eventOf followedEvent burstEvent ifBurst
-fragment-boundaries =
-    (found-after-once happens both up (crowded 31) fragmentEndings refl, found-after-once happens stands up (crowded 31) fragmentEndings refl)
-
--- after 31 collisions of AUI: nothing, and a 32nd; and one collision alone
-abbrev auiEndings : List (List (List ℕ))
-auiEndings = [] ∷ signalled 1 300 ∷ []
-
-abbrev AuiBoundaries : Type 0
-AuiBoundaries = foundAfter happens (told 8) up (signalled 31 300) auiEndings ≡ no ∷ yes ∷ []
-
-aui-boundaries : AuiBoundaries
-unfolding step-computes runOf historyOf happening eventAt eventOf followedEvent burstEvent ifBurst
-aui-boundaries = found-after-once happens (told 8) up (signalled 31 300) auiEndings refl
-
-abbrev LongBoundary : Type 0
-LongBoundary = (found happens (told 8) up (signalled 1 1024) ≡ no) × (found happens (told 8) up (signalled 1 1025) ≡ yes)
-
-long-boundary : LongBoundary
-unfolding step-computes runOf historyOf happening eventAt eventOf followedEvent burstEvent ifBurst
-long-boundary = (found-once happens (told 8) up (signalled 1 1024) refl, found-once happens (told 8) up (signalled 1 1025) refl)
 
 at-boundaries : TpBoundaries × FragmentBoundaries × AuiBoundaries × LongBoundary
 at-boundaries = (tp-boundaries, fragment-boundaries, aui-boundaries, long-boundary)

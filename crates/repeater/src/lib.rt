@@ -100,11 +100,12 @@ fn ports_after(
     let lasting = effect.lasting(hearing, activity);
     let back_aui = effect.reconnecting(lasting, for_aui);
     let back_tp = effect.reconnecting(lasting, for_tp);
+    let back = algorithms(back_aui, back_tp);
     let met = ports.meet(Meetings {
         t: hearing.t,
         collided: effect.collided,
         clean: lasting,
-        back: algorithms(back_aui, back_tp),
+        back: back,
         x: activity.x,
     });
     met.revive(activity.mask)
