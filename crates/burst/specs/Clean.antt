@@ -40,6 +40,6 @@ cleanAt hearing effect i = not (isJam (effect .word)) && not (has (effect .colli
 unfoldable pub lastingAt : Hearing → Effect → Activity → ℕ → Bool
 lastingAt hearing effect activity i = cleanAt hearing effect i && ltb lastingAbove (activity .d)
 
--- whoever goes by the alternate algorithm is connected again by data that is sent to it alone
+-- a port that goes by the alternate algorithm is connected again only by data that is sent to it
 unfoldable pub reconnectingAt : Effect → ℕ → Bool → ℕ → Bool
 reconnectingAt effect lasting alternate i = has lasting i && (not alternate || dataTo effect i)

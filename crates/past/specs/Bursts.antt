@@ -8,7 +8,7 @@
 --   outBy t h i    == something goes out to port i
 --   collidedBy b t h i == port i collides
 --   cleanBy b t h i == the burst is clean for port i of T
---   lastingBy b t h i == and lasts long enough to tell against the collisions before it, or for the port if it is partitioned
+--   lastingBy b t h i == and is longer than a fragment, which is nothing to a port
 --   reconnectsBy alternate b t h i == such a burst connects port i again if it is partitioned
 --   metBy alternate b t h i == the event that the burst is to port i
 -- Assumes nothing.
@@ -61,7 +61,6 @@ collidedBy b t h i =
 unfoldable pub cleanBy : Burst → ℕ → ℕ → ℕ → Bool
 cleanBy b t h i = not (jams b h) && not (collidedBy b t h i) && (inE b i || (toldData b h && outBy t h i))
 
--- a clean burst of 512 bit times or less is nothing to a port
 unfoldable pub lastingBy : Burst → ℕ → ℕ → ℕ → Bool
 lastingBy b t h i = cleanBy b t h i && ltb 512 (b .d)
 
