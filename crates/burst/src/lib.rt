@@ -279,8 +279,9 @@ impl Effect {
     pub fn lasting(self, hearing: Hearing, activity: Activity) -> u16
         ensures { λ r. ⌜ r ≡ setOf (lastingAt hearing self activity) ⌝ }
     {
+        let clean = self.clean(hearing);
         if Port::LASTING_ABOVE < activity.d {
-            return self.clean(hearing);
+            return clean;
         }
         0
     }

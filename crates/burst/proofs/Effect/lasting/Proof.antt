@@ -9,13 +9,12 @@ clean-requires c κs = search needs
 
 returns : tie.Need-returns
 returns c =
-    let l = c .before in
-    let a = l .before .before .args in
-    lasting-long (a .hearing) (a .self) (a .activity) _ (c .clean .ensures) (lt-ltb _ _ (l .if1 .taken))
+    let a = c .before .before .before .args in
+    lasting-long (a .hearing) (a .self) (a .activity) _ (c .before .before .clean .ensures) (lt-ltb _ _ (c .if1 .taken))
 
 returns-2 : tie.Need-returns-2
 returns-2 c =
-    let a = c .before .before .args in
+    let a = c .before .before .before .args in
     lasting-short (a .hearing) (a .self) (a .activity) (le-ltb _ _ (c .if1 .left))
 
 pub lasting-spec : {M : Type 1} → statement M
