@@ -222,11 +222,16 @@ orders =
     ∷ []
 
 -- one input of each kind that matters to a port's history, and what each is to TP0: after the link pulses it collides, is heard alone for 512 bit times
--- and for longer, is sent jam, is disabled, is disabled once more, is active while it is disabled, and is reset
+-- and for longer, also by the alternate algorithm, which would not reconnect it; it is sent jam, is disabled, is disabled once more, is active while it is
+-- disabled, and is reset
 abbrev pub story : List Input
 story =
     passing
-    ++ (collision 300 ∷ active 0b001 512 0 ∷ active 0b001 2000 0 ∷ mistimed 0b100 2000 ∷ setting (DisableTp 0) ∷ setting (DisableTp 0) ∷ collision 300 ∷ reset ∷ [])
+    ++ (collision 300 ∷ active 0b001 512 0 ∷ active 0b001 2000 0 ∷ setting AlternateTp ∷ active 0b001 2000 0 ∷ [])
+    ++ (mistimed 0b100 2000 ∷ setting (DisableTp 0) ∷ setting (DisableTp 0) ∷ collision 300 ∷ reset ∷ [])
 
 abbrev pub told : List Event
-told = replicate 4 neither ++ (collided 300 ∷ neither ∷ clean true ∷ neither ∷ cleared ∷ neither ∷ neither ∷ cleared ∷ [])
+told =
+    replicate 4 neither
+    ++ (collided 300 ∷ neither ∷ clean true ∷ neither ∷ clean false ∷ [])
+    ++ (neither ∷ cleared ∷ neither ∷ neither ∷ cleared ∷ [])
