@@ -76,18 +76,25 @@ tp-boundaries = found-after-once happens both up (crowded 31) endings refl
 abbrev pub fragmentEndings : List (List (List ℕ))
 fragmentEndings = sent 512 ∷ (sent 512 ++ crowd) ∷ (sent 513 ++ crowd) ∷ []
 
-abbrev pub stands : Point → List Happening → Standing
-stands p hs = standingAt (repeaterAt p) 0
+-- TP0: how it stands, and the two
+pub record Stood : Type 0 where
+  pub standing : Standing
+  pub told : List Bool
+
+abbrev pub stood : Standing → List Bool → Stood
+stood standing told = record { standing = standing; told = told }
+
+abbrev pub stands : Point → List Happening → Stood
+stands p hs = stood (standingAt (repeaterAt p) 0) (told 0 p hs)
 
 abbrev pub FragmentBoundaries : Type 0
 FragmentBoundaries =
-    (foundAfter happens both up (crowded 31) fragmentEndings ≡ (no ∷ no ∷ []) ∷ (yes ∷ yes ∷ []) ∷ (no ∷ no ∷ []) ∷ [])
-    × (foundAfter happens stands up (crowded 31) fragmentEndings ≡ connected 31 ∷ partitioned ∷ connected 1 ∷ [])
+    foundAfter happens stands up (crowded 31) fragmentEndings
+    ≡ stood (connected 31) no ∷ stood partitioned yes ∷ stood (connected 1) no ∷ []
 
 pub fragment-boundaries : FragmentBoundaries
 unfolding step-computes runOf historyOf happening eventAt eventOf followedEvent burstEvent ifBurst
-fragment-boundaries =
-    (found-after-once happens both up (crowded 31) fragmentEndings refl, found-after-once happens stands up (crowded 31) fragmentEndings refl)
+fragment-boundaries = found-after-once happens stands up (crowded 31) fragmentEndings refl
 
 -- after 31 collisions of AUI: nothing, and a 32nd; and one collision alone
 abbrev pub auiEndings : List (List (List ℕ))

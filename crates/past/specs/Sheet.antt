@@ -187,15 +187,13 @@ links =
 abbrev pub crowd : ℕ → List (List ℕ)
 crowd n = up ++ replicate n (clash both 0 600 100 300)
 
--- 31 and 32 collisions; between them a clean burst, sent or received, of 600, 512 and 513 bit times, by either algorithm, and jam
+-- 31 and 32 collisions; between them a clean burst of 600 bit times, one of 512, one of 513 that is received by the alternate algorithm, and jam
 abbrev pub crowds : List Row
 crowds =
     gets (crowd 31) 0x80 0xff
     ∷ gets (crowd 32) 0x80 0xfc
     ∷ gets (crowd 31 ++ (burst tp0 0 600 0 ∷ clash both 0 600 100 300 ∷ [])) 0x80 0xff
     ∷ gets (crowd 31 ++ (burst auiPort 0 512 0 ∷ clash both 0 600 100 300 ∷ [])) 0x80 0xfc
-    ∷ gets (crowd 31 ++ (burst auiPort 0 513 0 ∷ clash both 0 600 100 300 ∷ [])) 0x80 0xff
-    ∷ gets (throughS 0x10 ++ crowd 31 ++ (burst tp0 0 512 0 ∷ clash both 0 600 100 300 ∷ [])) 0x80 0xfc
     ∷ gets (throughS 0x10 ++ crowd 31 ++ (burst tp0 0 513 0 ∷ clash both 0 600 100 300 ∷ [])) 0x80 0xff
     ∷ gets (crowd 31 ++ (burst tp0 mistimed 600 0 ∷ clash both 0 600 100 300 ∷ [])) 0x80 0xfc
     ∷ []
