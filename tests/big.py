@@ -1,5 +1,5 @@
 #!/usr/bin/env -S python3 -B
-"""Long traces and slow ones: asm, run and export in constant memory, and a line on a terminal that tells how far a verb is."""
+"""Long traces and slow ones: asm, run, export and totals in constant memory, and a line on a terminal that tells how far a verb is."""
 
 import os
 import re
@@ -34,11 +34,12 @@ def memory(checks, folder):
         with open(folder / f'{name}.txt', 'wb') as file:
             for _ in range(count // 8):
                 file.writelines(LINES)
-    for verb in ('asm', 'run', 'export'):
+        (folder / f'{name}.readings').write_bytes(b'7\n8\n' * (count // 2))
+    for verb in ('asm', 'run', 'export', 'totals'):
         found = {}
         for name in ('few', 'many'):
             with open(folder / f'{name}.{verb}', 'wb') as out, open(folder / f'{name}.{verb}.said', 'wb') as said:
-                feeder = subprocess.Popen(['cat', str(folder / f'{name}.txt')], stdout=subprocess.PIPE)
+                feeder = subprocess.Popen(['cat', str(folder / f'{name}.{"readings" if verb == "totals" else "txt"}')], stdout=subprocess.PIPE)
                 words, source = ([str(folder / f'{name}.txt')], None) if verb == 'asm' else ([], feeder.stdout)
                 found[name], status = peak([verb, *words], stdin=source, stdout=out, stderr=said)
                 feeder.stdout.close()
@@ -50,7 +51,8 @@ def memory(checks, folder):
         file.seek(-20, os.SEEK_END)
         checks.equal(file.read().splitlines()[-1].split()[0], b'%d' % MANY, 'run answered every record')
     checks.equal((folder / 'many.export.said').read_text(), f'roverivet: {MANY // 8} records refused\n', 'export took every record')
-    print(f'asm, run and export: {MANY:,} records in constant memory', flush=True)
+    checks.equal((folder / 'many.totals').read_text(), f'{MANY // 2 + (MANY // 2 - 1) * (2**32 - 1)}\n', 'totals took every reading')
+    print(f'asm, run, export and totals: {MANY:,} records or readings in constant memory', flush=True)
 
 
 class Terminal:
@@ -87,7 +89,7 @@ def progress(checks, folder):
     log, slow = folder / 'one.log', liars.written(folder, liars.script(f'{liars.GOOD}, {SLEEP}'))
     subprocess.run(COMMAND + ['check', '--log', str(log), 'traces/sample.txt'], cwd=TOP, stdout=subprocess.DEVNULL, check=True)
     waits = {'asm': ([], b'tick\n'), 'dis': ([], bytes([3]) + bytes(31)), 'run': ([], b'tick\n'), 'check': (['-'], b'tick\n'), 'explain': ([], b'tick\n'),
-             'export': ([], b'tick\n'), 'view': (['-o', str(folder / 'x.svg')], b'tick\n'), 'verdict': (['-'], log.read_bytes())}
+             'export': ([], b'tick\n'), 'totals': ([], b'7\n'), 'view': (['-o', str(folder / 'x.svg')], b'tick\n'), 'verdict': (['-'], log.read_bytes())}
     started = []
     for verb, (more, data) in waits.items():
         for terminal in (True, False):

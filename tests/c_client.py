@@ -1,6 +1,7 @@
 #!/usr/bin/env -S python3 -B
-"""The C client: the header compiles without a warning, its sample runs, and no process is left behind."""
+"""The C client: the header compiles without a warning, its sample runs, its totals are true, and no process is left behind."""
 
+import random
 import shutil
 import subprocess
 import sys
@@ -46,6 +47,54 @@ int main(int count, char **words)
 }
 '''
 
+# sums the readings of each line of its input; a line may begin with the sum and the reading to go on from, as 'from SUM LAST'
+TOTALS = r'''
+#include "roverivet.h"
+#include <inttypes.h>
+#include <stdlib.h>
+int main(void)
+{
+    struct roverivet_total total;
+    char line[4096];
+    while (fgets(line, sizeof line, stdin)) {
+        int status = 0;
+        roverivet_total_begin(&total);
+        char *word = strtok(line, " \n");
+        if (word && !strcmp(word, "from")) {
+            total.sum = strtoull(strtok(NULL, " \n"), NULL, 10);
+            total.last = (uint32_t)strtoul(strtok(NULL, " \n"), NULL, 10);
+            total.begun = 1;
+            word = strtok(NULL, " \n");
+        }
+        for (; word; word = strtok(NULL, " \n"))
+            status = roverivet_total_add(&total, (uint32_t)strtoul(word, NULL, 10));
+        if (status)
+            puts("over");
+        else
+            printf("%" PRIu64 "\n", total.sum);
+    }
+    return 0;
+}
+'''
+
+# Q-14's own rows, and the edges of 64 bits
+SUMS = [('', '0'), ('7', '0'), ('4294967295 2 1', '4294967298'), ('0 4294967295 0', '4294967296'), ('5 5', '0'), ('5 4', '4294967295'),
+        ('from 18446744073709551612 4294967295 2', '18446744073709551615'), ('from 18446744073709551612 4294967295 3', 'over'),
+        ('from 18446744073709551615 9 9', '18446744073709551615'), ('from 18446744073709551615 9 10', 'over'),
+        ('from 18446744073709551615 9 10 10', 'over'), ('from 18446744073709551615 9 10 9', 'over')]
+
+
+def sums(checks, harness):
+    """Rows by hand, and random ones by Python's own numbers."""
+    draw, rows = random.Random('totals in C'), list(SUMS)
+    for _ in range(300):
+        readings = [draw.choice((0, 1, 2**31, 2**32 - 1, draw.randrange(2**32))) for _ in range(draw.randrange(40))]
+        rows.append((' '.join(map(str, readings)), str(sum((later - earlier) % 2**32 for earlier, later in zip(readings, readings[1:])))))
+    ran = subprocess.run([harness], input='\n'.join(row for row, _ in rows) + '\n', capture_output=True, text=True, timeout=60)
+    for (row, due), found in zip(rows, ran.stdout.splitlines()):
+        checks.equal(found, due, f'the total of {row[:60]}')
+    checks.equal((ran.returncode, ran.stdout.count('\n')), (0, len(rows)), 'a total for each row')
+
 
 def main():
     need_program()
@@ -74,6 +123,11 @@ def main():
             told = subprocess.run([f'{folder}/harness', 'on', str(run)], capture_output=True, text=True, timeout=60)
             checks.equal((told.returncode, told.stdout.splitlines()[1:]), (0, ['told']), 'a program that dies is told, without a signal')
             print('a harness that dies, a program that dies')
+        source = Path(folder) / 'totals.c'
+        source.write_text(TOTALS)
+        if compiled(source, 'totals'):
+            sums(checks, f'{folder}/totals')
+            print('true totals: rows by hand and random ones')
     return checks.end()
 
 

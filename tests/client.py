@@ -1,6 +1,8 @@
 #!/usr/bin/env -S python3 -B
-"""The Python client: its calls, its refusals, an agent that lives on it, and that it leaves no process behind."""
+"""The Python client: its calls, its refusals, an agent that lives on it, true totals, and that it leaves no process behind."""
 
+import contextlib
+import io
 import os
 import signal
 import struct
@@ -11,7 +13,7 @@ from checks import Checks, TOP, ended, need_program
 
 import roverivet
 from agent import Agent
-from roverivet import Chip, Refused
+from roverivet import Chip, DoesNotFit, Refused, Total
 
 
 def calls(checks):
@@ -139,6 +141,86 @@ def agent(checks):
     print('agent: initialise, poll, serve, add up over a wrap, guard a port')
 
 
+# ---- true totals
+
+
+def raised(kind, action):
+    """What an action says that must raise this kind of error."""
+    try:
+        return f'gave {action()!r}'
+    except kind as error:
+        return str(error)
+
+
+def totals(checks):
+    """Readings that are given: Q-14's rows, what is no reading, and the end of 64 bits."""
+    for readings, due in (((4294967295, 2, 1), 4294967298), ((7,), 0), ((0, 4294967295, 0), 4294967296), ((), 0), ((5, 5), 0)):
+        one = Total()
+        found = [one.add(reading) for reading in readings]
+        checks.equal((one.total, found[-1:]), (due, [due] if readings else []), f'the total of {readings}')
+    one = Total(None, 'tp0', 'readable octets')
+    one.add(4294967295)
+    for wrong, kind, said in ((True, TypeError, 'a whole number, found True'), (1.0, TypeError, 'a whole number, found 1.0'),
+                              ('7', TypeError, "a whole number, found '7'"), (None, TypeError, 'a whole number, found None'),
+                              (-1, ValueError, '0 to 4294967295, found -1'), (2**32, ValueError, '0 to 4294967295, found 4294967296'),
+                              (10**5000, ValueError, '0 to 4294967295, found a longer number')):
+        checks.equal(raised(kind, lambda: one.add(wrong)), f'reading 2 of Readable Octets of TP0: expected {said}', f'no reading: {said}')
+    checks.equal((one.add(2), one.readings, one.last), (3, 2, 2), 'and nothing was lost')
+    one._total = 2**64 - 4
+    checks.equal((one.add(5), one.fits), (2**64 - 1, True), 'the last sum that 64 bits hold')
+    for action in (lambda: one.add(6), lambda: one.add(6), lambda: one.add(5), lambda: one.total):
+        checks.equal(raised(DoesNotFit, action), 'Readable Octets of TP0: the sum reaches 2^64 and does not fit in 64 bits', 'it does not fit')
+    with contextlib.redirect_stderr(io.StringIO()) as told:
+        said = one.power_up()
+    checks.equal(said, 'Readable Octets of TP0: a power-up: a new chain begins with the next reading; the total so far, which did not fit, '
+                       'belongs to the chain before', 'a power-up is told')
+    checks.equal((told.getvalue(), one.notes, one.chains, one.fits, one.total), (f'roverivet: {said}\n', [said], [None], True, 0), 'the next chain')
+    checks.equal((one.power_up(), one.add(9), one.add(4), one.chains), ('', 0, 4294967291, [None]), 'a power-up before any reading says nothing')
+    for wrong, said in ((lambda: Total(None, 'TP9', 'Runts'), "'TP9' is none of"), (lambda: Total('TP0', 'Runts'), "'Runts' is none of Transmit"),
+                        (lambda: Total(None, 'TP0', 'Frames'), "'Frames' is none of Readable"), (lambda: Total(None, 'TP0', 'Runts', 1), 'found 3 names'),
+                        (lambda: Total('TP0'), 'expected a counter to poll'), (lambda: Total().poll(), 'expected a chip and a counter'),
+                        (lambda: one.poll(), 'Readable Octets of TP0: expected a chip and a counter')):
+        checks.check(said in raised(ValueError, wrong), f'totals: {said}', raised(ValueError, wrong))
+    print('totals: readings that are given, what is none, the end of 64 bits')
+
+
+def polled_totals(checks):
+    """Totals that poll a chip over wraps and resets, and another chip after it. Expected sums by document 01's credits."""
+    with Chip(start=start_file(r0=2**32 - 2, r1=2**32 - 100, r7=2**32 - 1, collisions=2**32 - 1)) as chip:
+        some = [Total(chip, *names) for names in (('TP0', 'Readable Frames'), ('TP0', 'Readable Octets'), ('TP0', 'Collisions'),
+                                                  ('Transmit Collisions',), ('Total Octets',))]
+
+        def polls():
+            return [one.poll() for one in some]
+
+        checks.equal(polls(), [0] * 5, 'the first polls')
+        checks.equal(polls(), [0] * 5, 'nothing between two polls')
+        for turn in range(3):
+            for _ in range(4):
+                chip.pulse('TP0-1')
+            chip.burst('TP0', d=1000, n=100)
+            chip.burst('TP0+TP1', d=600, c=100, x=300)
+            chip.reset()
+            checks.equal(polls(), [turn + 1, 100 * turn + 100, turn + 1, turn + 1, 100 * turn + 100], f'a frame, a collision and a reset, {turn + 1}')
+        checks.equal([one.last for one in some], [1, 200, 2, 2, 300], 'over four wraps')
+    for one in some:
+        checks.check('ended' in raised(roverivet.Ended, one.poll), f'{one.name}: a closed chip is not polled')
+    checks.equal([one.total for one in some], [3, 300, 3, 3, 300], 'and nothing was lost')
+    with Chip(start=start_file(r0=7, r1=50)) as other, contextlib.redirect_stderr(io.StringIO()) as told:
+        checks.equal([one.poll(other) for one in some], [0] * 5, 'another chip begins another chain')
+        checks.equal(([one.chains for one in some], told.getvalue().splitlines()),
+                     ([[3], [300], [3], [3], [300]], [f'roverivet: {one.notes[0]}' for one in some]), 'which is told, and the one before is kept')
+        checks.equal(some[1].notes, ['Readable Octets of TP0: a power-up: a new chain begins with the next reading; the total so far, 300, '
+                                     'belongs to the chain before'], 'in these words')
+        for _ in range(4):
+            other.pulse('TP0')
+        other.burst('TP0', d=1000, n=64)
+        checks.equal([one.poll() for one in some], [1, 64, 0, 0, 64], 'and is polled from there on')
+        checks.check('refused' in raised(Refused, lambda: other.read(0, 16)), 'a refusal')
+        checks.equal([one.poll() for one in some], [1, 64, 0, 0, 64], 'is nothing to a total')
+    print('totals: a chip polled over wraps and resets, a closed one, another one')
+
+
 # ---- no process left behind
 
 HARNESS = '''
@@ -207,6 +289,8 @@ def main():
     calls(checks)
     refusals(checks)
     agent(checks)
+    totals(checks)
+    polled_totals(checks)
     no_process_left(checks)
     return checks.end()
 

@@ -4,8 +4,9 @@
     mutants.py [NAME..] [--traces N]
 
 A planted rule is a replacement of text in the model's state machine. It counts as found when the copy's lines
-differ from the model's on one of the traces that compare.py would run. It is part of the gate: the compiler keeps
-what a planted rule leaves alone, and so all of them take about a minute of one processor.
+differ from the model's on one of the traces that compare.py would run; for the sum of differences, on one of the
+lists of readings that totals.py has by hand. It is part of the gate: the compiler keeps what a planted rule leaves
+alone, and so all of them take about a minute of one processor.
 """
 
 import argparse
@@ -16,6 +17,7 @@ from pathlib import Path
 import compare
 import generate
 import program
+import totals
 
 # name: what stands in the model, what is planted
 PLANTED = {
@@ -236,6 +238,26 @@ PLANTED = {
     'reset keeps disabled ports': ('*self = Chip::power_up(self.attributes);', 'let kept = self.ports; *self = Chip::power_up(self.attributes); for place in 0..PORTS { self.ports[place].enabled = kept[place].enabled; }'),
 }
 
+ADDED = 'self.sum = self.sum.checked_add(difference(self.last, later) as u64)?;'
+
+# the same in the sum of differences: pollers that are wrong
+SUMMED = {
+    'last minus first': (f'{ADDED}\n                self.last = later;', 'self.sum = difference(self.last, later) as u64;'),
+    'a difference dropped when the later reading is smaller': (ADDED, f'if later >= self.last {{ {ADDED} }}'),
+    'the sum modulo 2^32': (ADDED, 'self.sum = difference(self.last, later).wrapping_add(self.sum as u32) as u64;'),
+    'the first reading added': ('Total { sum: 0, last: first }', 'Total { sum: first as u64, last: first }'),
+    'later and earlier exchanged': (ADDED, ADDED.replace('self.last, later', 'later, self.last')),
+    'every wrap counted a credit short': (ADDED, f'{ADDED} if later < self.last {{ self.sum -= 1; }}'),
+}
+
+
+def misadded(words):
+    """The first list of readings by hand that this program adds up wrongly."""
+    for readings, due in totals.VECTORS:
+        if compare.run([*words, '--totals'], [totals.spelt(readings)]).lines != b'%d\n' % due:
+            return f'readings {", ".join(map(str, readings))}'
+    return None
+
 
 class Traces:
     """The traces and the model's lines, made once and as far as they are wanted."""
@@ -277,7 +299,7 @@ class Traces:
 
 def planted(source, name):
     """The model's source with one wrong rule, within the state machine alone."""
-    old, new = PLANTED[name]
+    old, new = (PLANTED | SUMMED)[name]
     end = source.index('pub mod reached')
     times = source[:end].count(old)
     if times != 1:
@@ -291,7 +313,7 @@ def main():
     parser.add_argument('--traces', type=int, default=800, help='seeds tried for each (default 800)')
     parser.add_argument('--records', type=int, default=3500, help='about how many records a trace (default 3500)')
     words = parser.parse_args()
-    names = words.names or list(PLANTED)
+    names = words.names or [*PLANTED, *SUMMED]
     source = program.SOURCE.read_text()
     copies = {name: planted(source, name) for name in names}
     missed = []
@@ -302,7 +324,7 @@ def main():
             path.write_text(copies[name])
             built = program.rust(path, Path(folder) / 'planted', '-C', 'overflow-checks=off', '-A', 'warnings',
                                  '-C', f'incremental={folder}/kept')
-            where = traces.found([str(built)])
+            where = (misadded if name in SUMMED else traces.found)([str(built)])
             print(f'{turn + 1} of {len(names)}: {name}: {"found by " + where if where else "NOT FOUND"}', flush=True)
             if where is None:
                 missed.append(name)

@@ -597,3 +597,31 @@ rule('octet_check_from_63', 'Two readings', 'Yes from 64 octets a frame on.', 'f
 rule('octet_check_below_1518', 'Two readings', 'Yes up to 1518 octets a frame.', 'up to 1517',
      ('attributes/specs/Octets.antt', 'leb octets (longest * frames))', 'leb octets (1517 * frames))'),
      ('attributes/src/octets.rt', 'if octets <= Attributes::LONGEST * frames {', 'if octets <= 1517 * frames {'))
+
+# ---- Many readings
+
+STEP = 'totalAfter last (r ∷ rs) = differenceOf r last + totalAfter r rs'
+rule('sum_modulo_32', 'Many readings', 'The differences add up to a whole number.', 'modulo 2^32',
+     *both('attributes', 'Octets', STEP, 'totalAfter last (r ∷ rs) = (differenceOf r last + totalAfter r rs) % 2 ^ 32',
+           'octets', 'room = room - more;', 'room = u64::MAX - (u64::MAX - room + more) % 4_294_967_296;'))
+rule('first_reading_added', 'Many readings', 'The sum begins at the first reading with 0.', 'with the reading',
+     *both('attributes', 'Octets', 'totalOf (r ∷ rs) = totalAfter r rs', 'totalOf (r ∷ rs) = r + totalAfter r rs',
+           'octets', 'carried(0, readings[0], &readings[1..])', 'carried(wide(readings[0]), readings[0], &readings[1..])'))
+rule('earlier_minus_later', 'Many readings', 'Each difference is later minus earlier.', 'earlier minus later',
+     *both('attributes', 'Octets', STEP, 'totalAfter last (r ∷ rs) = differenceOf last r + totalAfter r rs',
+           'octets', 'difference(reading, before)', 'difference(before, reading)'))
+rule('smaller_reading_dropped', 'Many readings', 'A later reading that is smaller has wrapped.', 'adds nothing',
+     *both('attributes', 'Octets', STEP, 'totalAfter last (r ∷ rs) = cond (ltb r last) 0 (differenceOf r last) + totalAfter r rs',
+           'octets', 'let more = wide(difference(reading, before));', 'let more = if reading < before { 0 } else { wide(difference(reading, before)) };'))
+rule('last_sum_too_large', 'Many readings', '64 bits hold every sum below 2^64.', 'below 2^64 - 1',
+     *both('attributes', 'Octets', 'cond (ltb n (2 ^ 64)) (Sum n) TooLarge', 'cond (ltb n (2 ^ 64 - 1)) (Sum n) TooLarge',
+           'octets', 'if room < more {', 'if room <= more {'))
+rule('too_large_forgotten', 'Many readings', 'A sum that did not fit never fits again.', 'the next readings begin it anew',
+     *both('attributes', 'Octets', 'totalOn TooLarge last rs = TooLarge', 'totalOn TooLarge last rs = answered (totalAfter last rs)',
+           'octets', 'Total::TooLarge => Total::TooLarge,', 'Total::TooLarge => carried(0, last, readings),'))
+rule('readings_most_significant_first', 'Many readings', 'The first byte of a reading is the least significant.', 'the most significant',
+     *both('chain', 'Chain', 'spelt (a ∷ b ∷ c ∷ d ∷ []) ∷ readingsIn rest', 'spelt (d ∷ c ∷ b ∷ a ∷ []) ∷ readingsIn rest',
+           'lib', 'four(piece[at], piece[at + 1], piece[at + 2], piece[at + 3])', 'four(piece[at + 3], piece[at + 2], piece[at + 1], piece[at])'))
+rule('stretches_apart', 'Many readings', 'The first reading of a stretch follows the last of the one before.', 'each stretch is a row of its own',
+     *both('chain', 'Chain', '(totalOn (c .total) (c .last) (r ∷ rs))', '(totalOn (c .total) r (r ∷ rs))',
+           'lib', 'total_on(total, chain.last, readings)', 'total_on(total, readings[0], readings)'))

@@ -20,7 +20,7 @@ from checks import Checks, TOP, ended, need_program
 
 import roverivet
 from roverivet import KINDS, Record, SIZE
-from tools import explain, picture, text, watch
+from tools import explain, picture, text, totals, watch
 from tools.text import TextError
 
 SECONDS = 60  # that any one process may take
@@ -292,17 +292,42 @@ def any_text(checks, draw):
     return 30_000
 
 
+SIGNS = ['7', '0', '4294967295', '4294967296', '99999999999', '00', '-1', '+', '_', '.', '\u0663', '\uff17', 'x', '#', '# 7', ' ', '\t', '\r', '\0',
+         '\xa0', '\x0c']
+
+
+def any_readings(checks, draw):
+    """totals of anything: numbers up to 2^32 - 1, one for each line that has something, or an error at the first line that has none."""
+    taken = 0
+    for turn in range(20_000):
+        lines = [''.join(draw.choice(SIGNS[:3] if draw.random() < 0.8 else SIGNS) for _ in range(draw.choice((0, 1, 1, 1, 2))))
+                 for _ in range(draw.randrange(5))]
+        said = [line.split('#')[0].strip(' \t\r') for line in lines]
+        good = [not word or word.isascii() and word.isdigit() and len(word) <= 10 and int(word) < 2**32 for word in said]
+        try:
+            found = list(totals.readings((line.encode() + b'\n' for line in lines), 'some'))
+            fine, taken = all(good) and found == [int(word) for word in said if word], taken + 1
+        except TextError as error:
+            fine = not all(good) and error.line == good.index(False) + 1 and error.column <= len(lines[error.line - 1])
+        if not fine or turn % 1000 == 0:
+            checks.check(fine, f'totals of {lines!r}')
+    checks.check(1000 < taken < 19_000, f'{taken} of 20,000 texts were taken')
+    print(f'totals: 20,000 random texts, {taken} taken and the others told where they are wrong', flush=True)
+    return 20_000
+
+
 def commands(checks, draw):
     """The commands themselves on random files, full devices and readers that leave."""
     command = [sys.executable, str(TOP / 'roverivet')]
     with tempfile.TemporaryDirectory() as folder:
         path = Path(folder) / 'input'
-        for turn in range(12):
-            verb = ('asm', 'dis', 'run', 'explain')[turn % 4]
-            path.write_bytes(some_text(draw) if verb == 'asm' else b''.join(any_record(draw) for _ in range(20)) + draw.randbytes(turn))
-            form = [] if verb == 'asm' else ['--binary']
+        for turn in range(15):
+            verb = ('asm', 'dis', 'run', 'explain', 'totals')[turn % 5]
+            texts = verb in ('asm', 'totals')
+            path.write_bytes(some_text(draw) if texts else b''.join(any_record(draw) for _ in range(20)) + draw.randbytes(turn))
+            form = [] if texts else ['--binary']
             result = subprocess.run(command + [verb, *form, str(path)], capture_output=True, timeout=SECONDS)
-            checks.check(result.returncode in ((0, 2) if verb == 'asm' else (0,)) and b'Traceback' not in result.stderr,
+            checks.check(result.returncode in ((0, 2) if texts else (0,)) and b'Traceback' not in result.stderr,
                          f'{verb} of random input', f'status {result.returncode}', result.stderr.decode('utf-8', 'replace')[-300:])
         path.write_bytes(b''.join(any_record(draw) for _ in range(20_000)))
         for verb in ('dis', 'run', 'explain'):
@@ -317,7 +342,7 @@ def commands(checks, draw):
                          f'{verb} ends quietly when its reader leaves', f'status {process.returncode}')
             process.stderr.close()
     print('commands: random files, full devices, readers that leave', flush=True)
-    return 18
+    return 21
 
 
 def main(words):
@@ -330,7 +355,7 @@ def main(words):
     print(f'seed {seed}')
     tried = traces_in_pieces(checks, draw) + every_length(checks, draw) + answered_at_once(checks, draw)
     tried += closed_and_full(checks, draw) + harness_dies(checks) + watched(checks, draw)
-    tried += both_ways(checks, draw) + any_text(checks, draw) + commands(checks, draw)
+    tried += both_ways(checks, draw) + any_text(checks, draw) + any_readings(checks, draw) + commands(checks, draw)
     checks.check(tried >= 100_000, f'{tried} inputs, fewer than 100,000')
     print(f'{tried} inputs')
     return checks.end()

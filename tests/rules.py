@@ -38,8 +38,8 @@ RUN = re.compile(r'^rules of commit (\S+), (\S+)$', re.MULTILINE)
 TOLD = re.compile(r'(?P<name>\w+): refused at (?P<place>\S+: \S+) \(\S+\); (?:also at (?P<also>\d+) |definition and code agree)')
 TABLES = {
     'record/proofs/Sheet', 'host/proofs/Sheet', 'management/proofs/Listed', 'port/proofs/Sheet', 'port/proofs/Disabled', 'store/proofs/Sheet', 'burst/proofs/Scenes',
-    'repeater/proofs/Sheet', 'repeater/proofs/Commands', 'attributes/proofs/Sheet', 'attributes/proofs/FlatSheet', 'attributes/proofs/OctetCheck', 'changes/proofs/Sheet',
-    'chip/proofs/Sheet', 'access/proofs/Sheet', 'himib/proofs/Sheet', 'himib/proofs/FlatSheet', 'himib/proofs/Told', 'start/proofs/Sheet', 'block/proofs/Answers', 'history/proofs/Past',
+    'repeater/proofs/Sheet', 'repeater/proofs/Commands', 'attributes/proofs/Sheet', 'attributes/proofs/FlatSheet', 'attributes/proofs/OctetCheck', 'attributes/proofs/TotalSheet', 'changes/proofs/Sheet',
+    'chip/proofs/Sheet', 'access/proofs/Sheet', 'himib/proofs/Sheet', 'himib/proofs/FlatSheet', 'himib/proofs/Told', 'start/proofs/Sheet', 'block/proofs/Answers', 'chain/proofs/Sheet', 'history/proofs/Past',
 }
 PROMISES = 'pass/proofs/'
 Place = collections.namedtuple('Place', 'crate file line name text')

@@ -3,16 +3,18 @@
 
 import os
 import re
+import shutil
 import subprocess
 import sys
 import tempfile
 from pathlib import Path
 
 from checks import Checks, TOP, need_program, roverivet_command
+import building
 import liars
 from reference import rows
 
-VERBS = ('build', 'asm', 'dis', 'run', 'check', 'verdict', 'explain', 'export', 'talk', 'view')
+VERBS = ('build', 'asm', 'dis', 'run', 'check', 'verdict', 'explain', 'export', 'talk', 'totals', 'view')
 GOOD = b'pulse tp0 x4 => ok\nburst tp0 d=600 n=64 => rep 100\ntick mask=001 => ref 8\n'
 WRONG = b'pulse tp0 x4\nburst tp0 n=64\n'
 
@@ -23,7 +25,8 @@ class Table:
     def __init__(self, checks, folder):
         self.checks, self.folder = checks, folder
         for name, data in (('good.txt', GOOD), ('wrong.txt', WRONG), ('empty.txt', b'# nothing\n'), ('short.start', b'short\0'),
-                           ('bad.start', b'tp0 Runts = x\n'), ('other.txt', GOOD.replace(b'100', b'102')), ('refused.txt', b'tick mask=001\n')):
+                           ('bad.start', b'tp0 Runts = x\n'), ('other.txt', GOOD.replace(b'100', b'102')), ('refused.txt', b'tick mask=001\n'),
+                           ('good.readings', b'7\n9\n'), ('wrong.readings', b'7\n-9\n')):
             (folder / name).write_bytes(data)
         (folder / 'good.bin').write_bytes(self.run('asm', 'good.txt').stdout)
         self.run('check', '--log', 'good.log', 'good.txt')
@@ -39,7 +42,7 @@ class Table:
         return (verb, *((file,) if verb not in ('talk', 'build') else ()), *more)
 
     def usual(self, verb):
-        return {'dis': 'good.bin', 'verdict': 'good.log'}.get(verb, 'good.txt')
+        return {'dis': 'good.bin', 'verdict': 'good.log', 'totals': 'good.readings'}.get(verb, 'good.txt')
 
     def is_status(self, status, ran, what):
         said = ran.stderr.decode()
@@ -51,6 +54,19 @@ class Table:
         path = liars.written(self.folder, source)
         ran = self.run(*self.words(verb, file), data=data if verb == 'talk' else None, env={**os.environ, 'ROVERIVET_RUN': str(path)})
         self.is_status(status, ran, f'{verb}: {source[-60:]!r}')
+
+    def copied(self, verb, source, data=b'7\n8\n9\n'):
+        """A verb by a copy of ./roverivet that has nothing to build with, and this for the program of its name if it is not empty."""
+        folder = self.folder / 'copied'
+        shutil.rmtree(folder, ignore_errors=True)
+        (folder / 'repository' / 'target' / 'bin').mkdir(parents=True)
+        building.make(folder)
+        (folder / 'repository' / 'crates.txt').unlink()
+        if source:
+            (folder / 'repository' / 'target' / 'bin' / verb).write_text(source)
+            (folder / 'repository' / 'target' / 'bin' / verb).chmod(0o755)
+        return subprocess.run([sys.executable, '-B', str(folder / 'repository' / 'roverivet'), verb], input=data, capture_output=True, timeout=60,
+                              env={**os.environ, 'RATTLE_HOME': str(folder / 'kit')})
 
 
 def does(table, status, verb):
@@ -76,6 +92,13 @@ def unexpected(table, status, verb):
     table.is_status(status, table.run(verb, 'refused.txt'), f'{verb}: a refusal')
 
 
+def no_sum(table, status, verb):
+    for source in (building.TOTALS, '#!/bin/sh\ncat > /dev/null\n', '#!/bin/sh\nexit 7\n', '#!/bin/sh\ncat > /dev/null\necho hello\n'):
+        ran = table.copied(verb, source)
+        table.is_status(status, ran, f'{verb}: {source[-60:]!r}')
+        table.checks.check(ran.stderr.startswith(b'roverivet: ') and not ran.stdout, f'{verb}: which is told, and no sum is printed')
+
+
 def not_green(table, status, verb):
     table.is_status(status, table.run(verb, 'good.log', 'red.log'), f'{verb}: red')
     table.is_status(status, table.run(verb, 'good.log', '--since', '2999-01-01'), f'{verb}: no test')
@@ -98,6 +121,12 @@ def mistake(table, status, verb):
     ran = table.run(*table.words(verb, 'wrong.txt'))
     table.is_status(status, ran, f'{verb}: a text with a mistake')
     table.checks.check(b'wrong.txt:2:15: expected d=' in ran.stderr and b'ok' not in ran.stdout, f'{verb}: the mistake is told, and nothing is run')
+
+
+def no_reading(table, status, verb):
+    ran = table.run(*table.words(verb, 'wrong.readings'))
+    table.is_status(status, ran, f'{verb}: a line that is no reading')
+    table.checks.check(b'wrong.readings:2:1: expected a reading' in ran.stderr and not ran.stdout, f'{verb}: it is told, and no sum is printed')
 
 
 def text(table, status, verb):
@@ -141,6 +170,9 @@ def unwritable(table, status, verb):
 
 
 def missing(table, status, verb):
+    if verb == 'totals':
+        table.is_status(status, table.copied(verb, ''), f'{verb} without a program')
+        return
     ran = table.run(*table.words(verb, table.usual(verb)), data=b'', env={**os.environ, 'ROVERIVET_RUN': str(table.folder / 'none')})
     table.is_status(status, ran, f'{verb} without a program')
 
@@ -153,11 +185,13 @@ LINES = {
     'an answer that no record of its kind can have': impossible,
     'a refusal where document 01 has none, or the reverse': refuses,
     'an answer is not the expected one, or a refusal where nothing is expected': unexpected,
+    'the sum does not fit in 64 bits, or the program gives none': no_sum,
     'a test is not green, there is none, or a log is damaged': not_green,
     'words that the verb does not take': words,
     'a name that no attribute has': misnamed,
     'a file that cannot be read': unreadable,
     'a text with a mistake; nothing of it is run': mistake,
+    'a line that is no reading; no sum is printed': no_reading,
     'text where records are expected': text,
     'a line with a mistake, unless a person types it': talked,
     'a start file that cannot be read, has another size, or a mistake': start,

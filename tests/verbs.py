@@ -12,7 +12,7 @@ from checks import Checks, TOP, need_program, roverivet_command
 from record import SAMPLE_LINES
 import liars
 
-VERBS = ('build', 'asm', 'dis', 'run', 'check', 'explain', 'export', 'talk', 'view')
+VERBS = ('build', 'asm', 'dis', 'run', 'check', 'explain', 'export', 'talk', 'totals', 'view')
 
 EXPLAINED = '''1-3 pulse tp0+tp1: ok
 4 pulse tp0+tp1: ok; link passes: TP0 TP1
@@ -61,7 +61,7 @@ def helps(checks):
         checks.check(shown.returncode == 0 and shown.stdout.startswith(f'usage: roverivet {verb}'.encode()), f'{verb} --help')
     whole = roverivet_command('--help')
     checks.check(whole.returncode == 0 and all(f'    {verb} '.encode() in whole.stdout for verb in VERBS), '--help names all verbs')
-    for words in ((), ('bogus',), ('run', 'a', 'b'), ('view', 'traces/sample.txt'), ('talk', 'x'), ('run', '--bogus')):
+    for words in ((), ('bogus',), ('run', 'a', 'b'), ('view', 'traces/sample.txt'), ('talk', 'x'), ('run', '--bogus'), ('totals', 'a', 'b')):
         wrong = roverivet_command(*words)
         checks.check(wrong.returncode == 2 and b'usage:' in wrong.stderr, f'bad usage: {" ".join(words) or "no verb"}')
     print(f'help of {len(VERBS)} verbs, bad usage')

@@ -41,10 +41,11 @@ def path_of(name):
     return PROGRAM.parent / name
 
 
-def usable(name, progress=None):
+def usable(name, progress=None, replaced=True):
     """Whether the program target/bin/NAME is there, and is one of those that are asked for. Proves and builds it where it is
-    missing or older than its sources, if there is anything to build it with."""
-    if os.environ.get('ROVERIVET_RUN'):
+    missing or older than its sources, if there is anything to build it with. `replaced` says whether the program that
+    ROVERIVET_RUN names is asked in its place."""
+    if replaced and os.environ.get('ROVERIVET_RUN'):
         return False
     checked = path_of(f'{name}.checked')  # touched when the sources were last found proved
     if is_fresh(path_of(name), checked):
@@ -59,6 +60,13 @@ def usable(name, progress=None):
     checked.touch()
     os.utime(checked, (began, began))
     return True
+
+
+def need(name, progress=None):
+    """Leaves a program target/bin/NAME whose place no other can take, or raises Missing."""
+    if not usable(name, progress, replaced=False):
+        lacking = 'rt on the path' if (HERE / 'crates.txt').exists() else 'crates.txt to build it from'
+        raise Missing(f'target/bin/{name} must be proved and built first, and there is no {lacking}')
 
 
 def is_fresh(program, checked):

@@ -42,7 +42,7 @@ def by_program(one, start, names, progress):
         if file:
             file.close()
     try:
-        whole = fed(process, one, progress)
+        whole = fed(process, one.blocks(), progress)
         said, told = (some.decode('ascii', 'replace') for some in process.communicate())
     except BaseException:
         process.kill()
@@ -53,13 +53,13 @@ def by_program(one, start, names, progress):
     return lines_of(said, names), refused_in(told)
 
 
-def fed(process, one, progress):
-    """Writes the trace to the program, which prints nothing before its end; whether all of it was taken."""
+def fed(process, blocks, progress, size=SIZE):
+    """Writes blocks to a program, which prints nothing before their end; whether all was taken. Counts pieces of a size."""
     whole = True
     try:
-        for block in one.blocks():
+        for block in blocks:
             process.stdin.write(block)
-            progress.add(len(block) // SIZE)
+            progress.add(len(block) // size)
         process.stdin.close()
     except BrokenPipeError:
         whole = False

@@ -74,7 +74,10 @@ def read_all(path):
 def lines_of(file, name):
     """The lines of a file, read one at a time."""
     for number in range(1, 1 << 62):
-        line = file.readline(LONGEST + 1)
+        try:
+            line = file.readline(LONGEST + 1)
+        except OSError as error:
+            raise Bad(f'{name}: {error.strerror}') from None
         if not line:
             return
         if len(line) > LONGEST:

@@ -10,7 +10,7 @@ from pathlib import Path
 import roverivet
 import roverivet_version
 from roverivet import ATTRIBUTES, Record, SIZE, TICK
-from tools import build, check, explain, export, inputs, picture, pump, report, startfile, telling, text, verdict
+from tools import build, check, explain, export, inputs, picture, pump, report, startfile, telling, text, totals, verdict
 from tools.inputs import Bad, output, shown
 from tools.progress import Progress
 from tools.text import TextError
@@ -199,6 +199,22 @@ def attribute(name):
     return found[0]
 
 
+# ---- totals
+
+
+def totals_verb(args):
+    number = inputs.opened(args.trace)
+    build.need('totals', args.progress)
+    args.progress.stage('readings')
+    found = totals.summed(args.trace, number, args.progress)
+    if found is None:
+        with args.progress.aside():
+            print(f'roverivet: {inputs.shown(args.trace)}: {totals.DOES_NOT_FIT}', file=sys.stderr, flush=True)
+        return FINDING
+    args.progress.print(str(found))
+    return FINE
+
+
 # ---- view
 
 
@@ -335,6 +351,8 @@ def parser():
     one = verb('export', 'run a trace and print the counters that it leaves, as CSV', export_verb)
     one.add_argument('--attribute', metavar='NAME', type=attribute, help="one attribute by its name, as 'Readable Octets'; all thirteen if not named")
     trace_options(one)
+    verb('totals', 'add up the differences of readings of one counter, each later minus earlier modulo 2^32', totals_verb, 'FILE',
+         more=totals.__doc__)
     one = verb('view', 'draw a run: a lane for each port, the change bits and their reads beneath', view)
     one.add_argument('-o', '--output', metavar='FILE', required=True, help='the picture, FILE.svg or FILE.html')
     one.add_argument('--from', dest='first', metavar='N', type=int, default=1, help='the first record to show')

@@ -348,4 +348,35 @@ static inline int roverivet_attribute(struct roverivet *chip, unsigned r, uint32
     return 0;
 }
 
+/* ---- true totals */
+
+/* The sum of the differences of one counter's readings, each reading minus the one before it modulo 2^32. It is the
+ * number of credits from the first to the last, if fewer than 2^32 of them (octets of an octet counter) fell between
+ * two readings in a row, which no reading can show, and if it fits. Resets do not matter; after a power-up begin
+ * again. docs/REFERENCE.md says how often to poll. */
+struct roverivet_total {
+    uint64_t sum;
+    uint32_t last; /* the last reading, once there is one */
+    int begun;     /* there is a reading */
+    int over;      /* the sum has reached 2^64: `sum` is what it was before, and no total */
+};
+
+static inline void roverivet_total_begin(struct roverivet_total *total)
+{
+    memset(total, 0, sizeof *total);
+}
+
+/* One more reading. Gives 0, or -1 from the reading on with which the sum reaches 2^64. */
+static inline int roverivet_total_add(struct roverivet_total *total, uint32_t reading)
+{
+    uint32_t more = total->begun ? (uint32_t)(reading - total->last) : 0;
+    total->over = total->over || more > UINT64_MAX - total->sum;
+    if (total->over)
+        return -1;
+    total->sum += more;
+    total->last = reading;
+    total->begun = 1;
+    return 0;
+}
+
 #endif

@@ -783,6 +783,97 @@ class Chip:
                 roverivet_log.ended(self.attempt, self.program, self.claim, error, within)
 
 
+# ---- true totals
+
+
+class DoesNotFit(OverflowError):
+    """The sum of differences reaches 2^64."""
+
+
+class Total:
+    """The true total of one counter from many polls: the sum of differences, each reading minus the one before it modulo 2^32.
+
+        octets = roverivet.Total(chip, 'TP0', 'Readable Octets')    # or (chip, 'Total Octets'), (chip, 'Transmit Collisions')
+        octets.poll()                                               # reads the counter's register, gives the total
+        frames = roverivet.Total()
+        frames.add(4294967295)                                      # takes a reading made elsewhere, gives the total
+
+    `total` is the number of credits from the first reading of a chain to its last, if two things hold:
+
+    - Fewer than 2^32 credits fell between two readings in a row. Of an octet counter octets are counted, and not the frames
+      that brought them. No reading can show that there were more: docs/REFERENCE.md says how often to poll.
+    - The sum is below 2^64. Where it is not, `add`, `poll` and `total` raise DoesNotFit until another chain begins.
+
+    Resets do not matter, since counters survive them. With a power-up another chain begins: call `power_up`, or poll another
+    chip, since that one was powered up by itself. The total is then 0 again. `chains` keeps the totals of the chains before,
+    None for one that did not fit, and `notes` what was said of each new chain, on standard error too.
+    """
+
+    def __init__(self, chip=None, *counter):
+        if chip is not None and not counter:
+            raise ValueError(f'expected a counter to poll: {COUNTER}')
+        self.chip, self.register = chip, _counter(counter) if counter else None
+        self.name = REGISTERS[self.register].name if counter else 'a counter'
+        self.chains, self.notes, self.readings = [], [], 0
+        self._begin()
+
+    def _begin(self):
+        self.last, self.fits, self._total = None, True, 0
+
+    @property
+    def total(self):
+        if not self.fits:
+            raise DoesNotFit(f'{self.name}: the sum reaches 2^64 and does not fit in 64 bits')
+        return self._total
+
+    def add(self, reading):
+        """One more reading of this chain."""
+        where = f'reading {self.readings + 1} of {self.name}'
+        if isinstance(reading, bool) or not isinstance(reading, int):
+            raise TypeError(f'{where}: expected a whole number, found {reading!r:.40}')
+        if not 0 <= reading < 1 << 32:
+            found = reading if reading.bit_length() < 99 else 'a longer number'
+            raise ValueError(f'{where}: expected 0 to 4294967295, found {found}')
+        sum_now = self.total + (0 if self.last is None else (reading - self.last) % (1 << 32))
+        self.fits, self._total, self.last, self.readings = not sum_now >> 64, sum_now, reading, self.readings + 1
+        return self.total
+
+    def poll(self, chip=None):
+        """Reads the counter and adds the reading. With a chip other than the last one another chain begins."""
+        chip = self.chip if chip is None else chip
+        if chip is None or self.register is None:
+            raise ValueError(f'{self.name}: expected a chip and a counter to poll, as Total(chip, "TP0", "Runts")')
+        reading = int.from_bytes(chip.read(*self.register), 'little')
+        if chip is not self.chip:
+            self.power_up(chip)
+        return self.add(reading)
+
+    def power_up(self, chip=None):
+        """Another chain begins with the next reading, of this chip if one is named. Gives the words that are said of it."""
+        note = ''
+        if self.last is not None:
+            so_far = f'the total so far, {self._total},' if self.fits else 'the total so far, which did not fit,'
+            note = f'{self.name}: a power-up: a new chain begins with the next reading; {so_far} belongs to the chain before'
+            self.chains.append(self._total if self.fits else None)
+            self.notes.append(note)
+            print(f'roverivet: {note}', file=sys.stderr, flush=True)
+        self.chip = self.chip if chip is None else chip
+        self._begin()
+        return note
+
+
+COUNTER = "a port and an attribute, 'Transmit Collisions' or 'Total Octets'"
+
+
+def _counter(words):
+    """(P, R) of a counter by its names."""
+    if len(words) == 2:
+        return _bank(words[0]), _place(ATTRIBUTES, words[1])
+    if len(words) != 1:
+        raise ValueError(f'expected {COUNTER}, found {len(words)} names')
+    return 0, 12 + _place([REGISTERS[0, place].name for place in (12, 13)], words[0])
+
+
 def _place(names, name):
     for place, one in enumerate(names):
         if one.lower() == name.lower():

@@ -1,16 +1,20 @@
 //! Document 01 once more, in plain Rust: a second reading to hold the proved program against.
 //!
 //! Written from document 01 alone (open points as docs/DECISIONS.md has them), never from the proved code, and
-//! changed by what is requested later: Q-2, what zeroes the count of a connected port.
+//! changed by what is requested later: Q-2, what zeroes the count of a connected port; Q-14, the sum of differences.
 //! `chip` is the state machine and does no input or output; `reached` says what a trace has exercised;
-//! `paper` holds the tests, whose expected values stand in document 01 or in Q-2. Build with `rustc -O`.
+//! `paper` holds the tests, whose expected values stand in document 01, in Q-2 or in Q-14. Build with `rustc -O`.
 //!
 //!     model [--reached] [START] < TRACE
 //!     model --export ATTRIBUTE [START] < TRACE
+//!     model --credits [START] < TRACE
+//!     model --totals < READINGS
 //!
 //! START: the counters and addresses at power-up, all zero without it (docs/REFERENCE.md, 'Start files').
 //! `--reached`: a line 'reached NAME TIMES' on standard error for each thing that a trace can reach, at the end.
 //! `--export`: no answers, but the counters that the trace leaves, as CSV. ATTRIBUTE is a register number or `all`.
+//! `--credits`: no answers, but the true number of credits of each counter since power-up, a line each.
+//! `--totals`: the sum of the differences of readings, four bytes each, the least significant first.
 
 pub mod chip {
     pub const PORTS: usize = 9;
@@ -842,6 +846,56 @@ pub mod chip {
         }
         let (frames, octets) = (frames as u64, octets as u64);
         Ok(64 * frames <= octets && octets <= 1518 * frames)
+    }
+
+    // ---- what a manager works out from many readings
+
+    /// The sum of the differences of readings in a row, and the last of them.
+    #[derive(Clone, Copy, PartialEq, Eq, Debug)]
+    pub struct Total {
+        pub sum: u64,
+        pub last: u32,
+    }
+
+    impl Total {
+        /// One reading differs from none before it.
+        pub fn begun(first: u32) -> Total {
+            Total { sum: 0, last: first }
+        }
+
+        /// The same with further readings, four bytes each, or None where 64 bits don't hold the sum.
+        pub fn with(mut self, readings: &[u8]) -> Option<Total> {
+            for bytes in readings.chunks_exact(4) {
+                let later = number(bytes, 0);
+                self.sum = self.sum.checked_add(difference(self.last, later) as u64)?;
+                self.last = later;
+            }
+            Some(self)
+        }
+    }
+
+    /// True numbers of credits, apart from the counters, which wrap.
+    pub struct Credits {
+        pub ports: [[u64; COUNTERS]; PORTS],
+        pub transmit_collisions: u64,
+        pub total_octets: u64,
+    }
+
+    impl Credits {
+        pub const NONE: Credits =
+            Credits { ports: [[0; COUNTERS]; PORTS], transmit_collisions: 0, total_octets: 0 };
+
+        /// Takes over what the counters hold and leaves them at zero, so that they never hold more than one record
+        /// has credited. No rule asks what a counter holds.
+        pub fn take_over(&mut self, counters: &mut Attributes) {
+            for (credits, port) in self.ports.iter_mut().zip(&mut counters.ports) {
+                for (credit, counter) in credits.iter_mut().zip(&mut port.counters) {
+                    *credit += std::mem::take(counter) as u64;
+                }
+            }
+            self.transmit_collisions += std::mem::take(&mut counters.transmit_collisions) as u64;
+            self.total_octets += std::mem::take(&mut counters.total_octets) as u64;
+        }
     }
 
     // ---- the start file and the printed line
@@ -1723,6 +1777,64 @@ pub mod program {
         io::stdout().lock().write_all(lines.as_bytes())
     }
 
+    /// The true number of credits of each counter since power-up, in the order and the words of a start file.
+    pub fn credits(start: Attributes) -> io::Result<()> {
+        let mut input = io::stdin().lock();
+        let mut chip = Chip::power_up(ZERO);
+        for (port, given) in chip.attributes.ports.iter_mut().zip(start.ports) {
+            port.address = given.address;
+        }
+        let mut credits = Credits::NONE;
+        let mut buffer = vec![0; 1 << 16];
+        loop {
+            let have = filled(&mut input, &mut buffer)?;
+            for record in buffer[..have].chunks(RECORD) {
+                chip.step(record);
+                credits.take_over(&mut chip.attributes);
+            }
+            if have < buffer.len() {
+                break;
+            }
+        }
+        let mut lines = String::new();
+        for (place, row) in credits.ports.iter().enumerate() {
+            let port = if place == AUI { String::from("aui") } else { format!("tp{place}") };
+            for (name, credit) in NAMES.iter().zip(row) {
+                lines += &format!("{port} {name} = {credit}\n");
+            }
+        }
+        lines += &format!("Transmit Collisions = {}\n", credits.transmit_collisions);
+        lines += &format!("Total Octets = {}\n", credits.total_octets);
+        io::stdout().lock().write_all(lines.as_bytes())
+    }
+
+    /// The sum of the differences of all readings, or why there is none.
+    pub fn totals() -> io::Result<()> {
+        let mut input = io::stdin().lock();
+        let mut buffer = vec![0; 1 << 16];
+        let mut have = filled(&mut input, &mut buffer)?;
+        let mut total = Total::begun(if have < 4 { 0 } else { number(&buffer, 0) });
+        loop {
+            match total.with(&buffer[..have]) {
+                Some(more) => total = more,
+                None => {
+                    eprintln!("totals: the sum reaches 2^64 and does not fit in 64 bits");
+                    return Ok(());
+                }
+            }
+            if have < buffer.len() {
+                break;
+            }
+            have = filled(&mut input, &mut buffer)?;
+        }
+        match have % 4 {
+            0 => writeln!(io::stdout().lock(), "{}", total.sum)?,
+            1 => eprintln!("totals: behind the last whole reading is 1 byte more"),
+            more => eprintln!("totals: behind the last whole reading are {more} bytes more"),
+        }
+        Ok(())
+    }
+
     pub fn run(start: Attributes, with_reached: bool) -> io::Result<()> {
         let mut input = io::stdin().lock();
         let mut output = io::stdout().lock();
@@ -1776,6 +1888,7 @@ fn registers(word: Option<String>) -> Result<std::ops::Range<usize>, String> {
 fn started() -> Result<(), String> {
     let mut reached = false;
     let mut export = None;
+    let mut credits = false;
     let mut start = chip::ZERO;
     let mut files = 0;
     let mut words = std::env::args().skip(1);
@@ -1784,6 +1897,10 @@ fn started() -> Result<(), String> {
             export = Some(registers(words.next())?);
         } else if word == "--octets" {
             return program::octets().map_err(|error| error.to_string());
+        } else if word == "--totals" {
+            return program::totals().map_err(|error| error.to_string());
+        } else if word == "--credits" {
+            credits = true;
         } else if word == "--reached" {
             reached = true;
         } else if word.starts_with("--") || files == 1 {
@@ -1795,6 +1912,7 @@ fn started() -> Result<(), String> {
     }
     match export {
         Some(registers) => program::export(start, registers).map_err(|error| error.to_string()),
+        None if credits => program::credits(start).map_err(|error| error.to_string()),
         None => program::run(start, reached).map_err(|error| error.to_string()),
     }
 }
@@ -1806,7 +1924,7 @@ fn main() {
     }
 }
 
-/// Expected values here stand in document 01, and those of the kept count in Q-2; none comes from a run.
+/// Expected values here stand in document 01, those of the kept count in Q-2, those of sums in Q-14; none comes from a run.
 #[cfg(test)]
 mod paper {
     use super::chip::*;
@@ -2035,6 +2153,39 @@ mod paper {
     #[test]
     fn boundary_sheet_readings() {
         assert_eq!(difference(4_294_967_295, 2), 3);
+    }
+
+    fn total(readings: &[u32]) -> Option<u64> {
+        let bytes: Vec<u8> = readings.iter().flat_map(|reading| reading.to_le_bytes()).collect();
+        Total::begun(readings[0]).with(&bytes).map(|total| total.sum)
+    }
+
+    #[test]
+    fn differences_add_up_to_a_whole_number() {
+        assert_eq!(total(&[4_294_967_295, 2, 1]), Some(4_294_967_298));
+        assert_eq!(total(&[7]), Some(0));
+        assert_eq!(total(&[0, 4_294_967_295, 0]), Some(4_294_967_296));
+    }
+
+    #[test]
+    fn a_sum_that_64_bits_do_not_hold_is_told() {
+        let total = Total { sum: u64::MAX - 3, last: 4_294_967_295 };
+        assert_eq!(total.with(&2u32.to_le_bytes()), Some(Total { sum: u64::MAX, last: 2 }));
+        assert_eq!(total.with(&3u32.to_le_bytes()), None);
+    }
+
+    #[test]
+    fn credits_go_on_where_counters_wrap() {
+        let mut chip = Chip::power_up(ZERO);
+        let mut credits = Credits { total_octets: 4_294_967_295, ..Credits::NONE };
+        for _ in 0..2 {
+            chip.step(&frame(0x100, 1000, 64, false, 0));
+            chip.step(&record(8));
+            credits.take_over(&mut chip.attributes);
+        }
+        assert_eq!(credits.total_octets, 4_294_967_295 + 128);
+        assert_eq!((credits.ports[AUI][READABLE_FRAMES], credits.ports[AUI][READABLE_OCTETS]), (2, 128));
+        assert_eq!(chip.attributes, ZERO);
     }
 
     #[test]

@@ -3,7 +3,9 @@ pub mod Computing
 pub mod Sheet
 pub mod FlatSheet
 pub mod OctetCheck
+pub mod TotalSheet
 pub mod Listed
+pub mod Totals
 pub mod FlatLaws
 pub mod CountLaws
 pub mod OneClass

@@ -2,12 +2,15 @@
 -- Assumes nothing.
 --   counted-from     == from any point whose attributes and totals are such as the caller can give
 --   counters-by-past == from power-up
+--   credits-on       == what two lists of records are credited with, one behind the other, adds up
 use Prim.Native.Nat.{ℕ, _+_, _%_, _^_, _<_}
-use mathlib.Core.Path.{_≡_}
-use mathlib.Core.List.{List, [], _∷_}
+use mathlib.Core.Path.{_≡_, sym, ap, _∙_}
+use mathlib.Core.List.{List, [], _∷_, _++_}
 use native.Mathlib.Omega.{arith}
-use Rattle.himib.specs.Runs.{Point, start, historyOf, runOf}
-use Rattle.pass.specs.Judged.{happens}
+use native.Mathlib.Nat.{zero-add, add-assoc}
+use Rattle.himib.specs.Runs.{Point, Happening, start, historyOf, runOf}
+use Rattle.himib.proofs.Runs.{history-on}
+use Rattle.pass.specs.Judged.{happens, history, run}
 use Rattle.pass.specs.Pass.{sumOf, CountedFrom, CountersByPast}
 use Rattle.pass.proofs.Credited.{Fit, Credited, credited, fit-after}
 
@@ -38,3 +41,14 @@ counted-from p fit (r ∷ rs) =
 -- its instance: brink-given, aui-counted, tp0-counted and totals-counted of Instances
 pub counters-by-past : CountersByPast
 counters-by-past given fit rs = counted-from (start given) fit rs
+
+-- LISTS OF RECORDS, JOINED
+
+sum-on : (f : Happening → ℕ) (hs gs : List Happening) → sumOf f (hs ++ gs) ≡ sumOf f hs + sumOf f gs
+unfolding sumOf
+sum-on f [] gs = sym (zero-add _)
+sum-on f (h ∷ hs) gs = ap (λ (n : ℕ). f h + n) (sum-on f hs gs) ∙ sym (add-assoc _ _ _)
+
+pub credits-on : (f : Happening → ℕ) (p : Point) (rs qs : List (List ℕ))
+    → sumOf f (history p (rs ++ qs)) ≡ sumOf f (history p rs) + sumOf f (history (run p rs) qs)
+credits-on f p rs qs = ap (sumOf f) (sym (history-on happens p rs qs)) ∙ sum-on f (history p rs) (history (run p rs) qs)

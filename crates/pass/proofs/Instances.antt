@@ -28,20 +28,20 @@ use Rattle.pass.proofs.Computing.{step-computes}
 
 -- THE COUNTERS
 
-abbrev last : ℕ
+abbrev pub last : ℕ
 last = 4294967295
 
-abbrev brink : Point
+abbrev pub brink : Point
 brink = start (allAt last)
 
-brink-given : Given (allAt last)
+pub brink-given : Given (allAt last)
 brink-given = all-given last (lit< tt)
 
 abbrev sender : List ℕ
 sender = 2 ∷ 0 ∷ 0 ∷ 7 ∷ 8 ∷ 9 ∷ []
 
 -- four link pulses at TP0; a frame of 64 octets at AUI, one of 1,518 and a runt of 63 at TP0; a late collision of the two; a reset; the first frame again
-abbrev mixed : List (List ℕ)
+abbrev pub mixed : List (List ℕ)
 mixed =
     pulseRecord 1 ∷ pulseRecord 1 ∷ pulseRecord 1 ∷ pulseRecord 1
     ∷ burstRecord 256 0 1000 64 0 0 0 sender

@@ -15,3 +15,6 @@ pub mod HostPast
 pub mod TurnedAway
 pub mod Sequences
 pub mod Polling
+pub mod Frames
+pub mod Polls
+pub mod Totals

@@ -3,3 +3,4 @@ pub mod Judged
 pub mod Pass
 pub mod Examples
 pub mod HostPast
+pub mod Totals
