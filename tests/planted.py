@@ -1,8 +1,8 @@
 """Wrong rules, for tests/rules.py: each is planted in the definition and in the code alike.
 
-A rule has a name, the section of document 01 that it is from, what document 01 says in our own words, what is planted
-in its place, and replacements: a file below crates/, a text that occurs in it exactly once, and what takes its place.
-A new rule of document 01 gets an entry here, and docs/MAP.md names it as `tests/planted: name`.
+A rule has a name, the section of document 01 that it is from ('Many readings' is Q-14), what it says in our own words, what
+is planted in its place, and replacements: a file below crates/, a text that occurs in it exactly once, and what takes its
+place. A new rule of document 01 or of a request gets an entry here, and docs/MAP.md names it as `tests/planted: name`.
 """
 
 import collections

@@ -201,8 +201,8 @@ def page(checks, logs):
     lines = [
         '# Wrong rules, planted',
         '',
-        'The last result of `tests/rules.py`. Each row has a rule of document 01 in our own words, what was planted in its place in',
-        'the definition and in the code alike, and the computed table or promise that refused it. The last column says how many',
+        'The last result of `tests/rules.py`. Each row has a rule of document 01, or of a request, in our own words, what was planted in its',
+        'place in the definition and in the code alike, and the computed table or promise that refused it. The last column says how many',
         "laws of definitions and functions' own proofs were refused as well. These cite the definition, so they may be stale text",
         'alone; 0 says that definition and code still agreed, and that nothing but the fact refused.',
         '',

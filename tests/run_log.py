@@ -15,6 +15,7 @@ from checks import Checks, TOP, need_program, roverivet_command
 import liars
 
 import roverivet
+from roverivet_log import FIELDS
 from tools import verdict as reader
 
 GREEN = 'pulse tp0 x4 => ok\nburst tp0 d=600 n=64 => rep 100\nd-read mask=001 => ref 8\nd-read => ref\n'
@@ -137,6 +138,8 @@ def damage(checks, folder):
         changed = bytearray(data)
         changed[at] ^= 1
         checks.equal(after(bytes(changed)), (1, True), f'byte {at} altered')
+    for name in FIELDS:
+        checks.equal(after(data.replace(f'"{name}"'.encode(), f'"{name}x"'.encode())), (1, True), f'{name} has another name')
     checks.equal(after(lines[0] + lines[2] + lines[1] + b''.join(lines[3:])), (1, True), 'two lines exchanged')
     checks.equal(after(data + lines[5]), (1, True), 'a line put in twice')
     checks.equal(after(data + b'{}\n'), (1, True), 'a line that is none')

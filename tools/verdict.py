@@ -53,7 +53,7 @@ class Log:
         """One line, behind one that has this hash and calls itself this. Gives what this one calls itself."""
         try:
             entry = json.loads(line)
-            wrong = [name for name, kind in FIELDS.items() if not isinstance(entry.get(name), kind)] if isinstance(entry, dict) else ['all']
+            wrong = [name for name, kind in FIELDS.items() if name not in entry or not isinstance(entry[name], kind)] if isinstance(entry, dict) else ['all']
         except ValueError:
             wrong = ['all']
         if wrong or entry['verdict'] not in VERDICTS or not _moment(entry['time']):

@@ -34,7 +34,7 @@ last = 4294967295
 abbrev pub brink : Point
 brink = start (allAt last)
 
-pub brink-given : Given (allAt last)
+brink-given : Given (allAt last)
 brink-given = all-given last (lit< tt)
 
 abbrev sender : List ℕ

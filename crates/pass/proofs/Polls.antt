@@ -2,7 +2,7 @@
 -- premise that allows too much are refused here first. Assumes nothing.
 --   pieces         == ten records in three pieces, the last of them empty: frames of AUI and of TP0; a runt, a collision, a reset and a frame of AUI; nothing
 --   frames-polled, octets-polled, collisions-polled, total-polled == four counters: their readings, the sum of the differences, and the credits
---   round-of-frames, round-of-octets == one frame too many, and octets that are too many though their frames are few: the premise does not allow them
+--   round-of-octets, round-of-frames == octets that are too many though their frames are few, and one frame too many: the premise does not allow them
 --   few-polled     == the premise holds of the four counters
 --   halves         == 2^31 frames, twice: the readings, and a sum that 32 bits do not hold
 --   polls          == three polls of AUI's Readable Frames through the registers, with a frame between the bytes and a reset between the polls
@@ -60,13 +60,13 @@ total-polled = refl
 
 -- THE PREMISE DOES NOT HOLD
 
-round-of-frames : Few (attribute aui 0) up (again (2 ^ 32) frame ∷ []) → ⊥
-unfolding Few
-round-of-frames few = omega (arith, frames-from up refl (2 ^ 32) .0, few .0)
-
 round-of-octets : Few (attribute aui 1) up (again (2 ^ 26) frame ∷ []) → ⊥
 unfolding Few
 round-of-octets few = omega (arith, frames-from up refl (2 ^ 26) .1, few .0)
+
+round-of-frames : Few (attribute aui 0) up (again (2 ^ 32) frame ∷ []) → ⊥
+unfolding Few
+round-of-frames few = omega (arith, frames-from up refl (2 ^ 32) .0, few .0)
 
 -- THE PREMISE HOLDS
 
