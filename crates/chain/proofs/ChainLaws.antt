@@ -10,8 +10,8 @@ use mathlib.Core.Bool.{Bool, true, false, cond}
 use mathlib.Core.List.{List, [], _∷_, _++_, append-nil}
 use native.Mathlib.Omega.{arith}
 use native.Mathlib.Nat.{zero-add, add-assoc}
-use lib.ListN.{length, getD, take, drop}
-use lib.Seq.{drop-cons, take-all}
+use lib.ListN.{length, getD, drop}
+use lib.Seq.{drop-cons}
 use Rattle.spelling.specs.Spelling.{spelt}
 use Rattle.attributes.specs.declared.octets.Total.{Total}
 use Rattle.attributes.specs.declared.octets.Total.the-variants.{Sum, TooLarge}
@@ -76,23 +76,23 @@ on-joined (Sum n) last rs more =
 on-joined TooLarge last rs more = refl
 
 pub onward-joined : (c : Chain) (rs more : List ℕ) → onward (onward c rs) more ≡ onward c (rs ++ more)
-unfolding onward
+unfolding onward totalOf
 onward-joined c [] more = refl
 onward-joined c (r ∷ rs) [] = ap (λ (qs : List ℕ). onward c (r ∷ qs)) (sym (append-nil rs))
 onward-joined c (r ∷ rs) (q ∷ qs) = both (sums (c .begun)) (last-joined r rs (q ∷ qs))
   where
-    sums : (b : Bool) → totalOn (cond b (totalOn (c .total) (c .last) (r ∷ rs)) (totalOn (c .total) r rs)) (lastOf r rs) (q ∷ qs)
-        ≡ cond b (totalOn (c .total) (c .last) (r ∷ rs ++ (q ∷ qs))) (totalOn (c .total) r (rs ++ (q ∷ qs)))
+    sums : (b : Bool) → totalOn (cond b (totalOn (c .total) (c .last) (r ∷ rs)) (answered (totalOf (r ∷ rs)))) (lastOf r rs) (q ∷ qs)
+        ≡ cond b (totalOn (c .total) (c .last) (r ∷ rs ++ (q ∷ qs))) (answered (totalOf (r ∷ rs ++ (q ∷ qs))))
     sums true = on-joined (c .total) (c .last) (r ∷ rs) (q ∷ qs)
-    sums false = on-joined (c .total) r rs (q ∷ qs)
+    sums false = carried-on (totalAfter r rs) (lastOf r rs) (q ∷ qs) ∙ ap answered (after-joined r rs (q ∷ qs))
 
     both : {t u : Total} {m n : ℕ} → t ≡ u → m ≡ n → _≡_ {A = Chain} (record { total = t; last = m; begun = true }) (record { total = u; last = n; begun = true })
     both e d = rw (e, d)
 
 pub onward-is-total : OnwardIsTotal
-unfolding onward totalOn totalOf
+unfolding onward totalOf
 onward-is-total [] = ap (λ (t : Total). record { total = t; last = 0; begun = false }) (sym (fits 0 (omega arith)))
-onward-is-total (r ∷ rs) = ap (λ (n : ℕ). record { total = answered n; last = lastOf r rs; begun = true }) (zero-add _)
+onward-is-total (r ∷ rs) = refl
 
 -- ---- What `carry` gives
 
@@ -116,10 +116,8 @@ module _ (c : Chain) (t : Total) where
   goes-on [] ne b e = absurd (ne refl)
   goes-on (r ∷ rs) ne b e = rw (b, e, at-end r rs)
 
-  pub sets-out : (rs : List ℕ) → (length rs ≡ 0 → ⊥) → c .begun ≡ false → t ≡ totalOn (c .total) (getD rs 0 0) (take (length rs - 1) (drop 1 rs))
+  pub sets-out : (rs : List ℕ) → (length rs ≡ 0 → ⊥) → c .begun ≡ false → t ≡ answered (totalOf rs)
       → record { total = t; last = getD rs (length rs - 1) 0; begun = true } ≡ onward c rs
   unfolding onward
   sets-out [] ne b e = absurd (ne refl)
-  sets-out (r ∷ rs) ne b e =
-      let all : take (length (r ∷ rs) - 1) rs ≡ rs = take-all (length (r ∷ rs) - 1) rs (omega arith) in
-      rw (b, e, at-end r rs, all)
+  sets-out (r ∷ rs) ne b e = rw (b, e, at-end r rs)

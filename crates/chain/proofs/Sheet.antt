@@ -41,7 +41,7 @@ pub the-chains : (onward none [] ≡ none)
     × (onward (onward none (4294967295 ∷ 2 ∷ [])) (1 ∷ []) ≡ at (Sum 4294967298) 1)
     × (onward (onward none []) (0 ∷ 4294967295 ∷ 0 ∷ []) ≡ at (Sum 4294967296) 0)
     × (onward (at (Sum 5) 7) [] ≡ at (Sum 5) 7)
-unfolding onward totalOn totalAfter answered
+unfolding onward totalOn totalOf totalAfter answered
 the-chains = (refl, refl, refl, refl, refl, refl, refl)
 
 pub the-wholes : (chainOf [] ≡ none)
@@ -70,7 +70,7 @@ third = 1 ∷ 0 ∷ 0 ∷ 0 ∷ 9 ∷ 9 ∷ []
 pub the-blocks : (blocksOf none ((first ++ second ++ third) ∷ []) ≡ at (Sum 4294967298) 1)
     × (blocksOf none (first ∷ (second ++ third) ∷ []) ≡ at (Sum 4294967298) 1)
     × (blocksOf none (first ∷ second ∷ third ∷ []) ≡ at (Sum 4294967298) 1)
-unfolding blocksOf readingsIn onward totalOn totalAfter answered
+unfolding blocksOf readingsIn onward totalOn totalOf totalAfter answered
 the-blocks = (refl, refl, refl)
 
 pub all-of-them : joined (first ∷ second ∷ []) third ≡ first ++ second ++ third

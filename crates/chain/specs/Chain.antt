@@ -5,7 +5,7 @@
 --   none            == the chain before the first reading: 0 so far
 --   lastOf last rs  == the last of the readings rs, or if there are none, last
 --   some rs         == there is a reading among rs
---   onward c rs     == the chain c with the readings rs behind it; the first reading of all adds nothing
+--   onward c rs     == the chain c with the readings rs behind it; where no reading came before, rs alone
 --   chainOf rs      == what all readings rs come to: the sum of their differences, the last of them or 0, and whether there is one
 --   OnwardIsTotal   == readings behind no other ones come to that
 -- Assumes nothing.
@@ -42,7 +42,7 @@ lastOf last (r ∷ rs) = lastOf r rs
 unfoldable pub onward : Chain → List ℕ → Chain
 onward c [] = c
 onward c (r ∷ rs) = record {
-  total = cond (c .begun) (totalOn (c .total) (c .last) (r ∷ rs)) (totalOn (c .total) r rs);
+  total = cond (c .begun) (totalOn (c .total) (c .last) (r ∷ rs)) (answered (totalOf (r ∷ rs)));
   last = lastOf r rs;
   begun = true;
 }

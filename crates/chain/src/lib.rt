@@ -68,7 +68,7 @@ fn carry(chain: Chain, readings: &[u32]) -> Chain
             begun: true,
         };
     }
-    let sum = octets::total_on(total, readings[0], &readings[1..]);
+    let sum = octets::total_of(readings);
     Chain {
         total: sum,
         last: last,

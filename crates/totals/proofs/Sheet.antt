@@ -22,7 +22,7 @@ unfolding readingsIn totalOf totalAfter answered
 the-outcomes = (refl, refl, refl, refl, refl)
 
 pub in-stretches : outcomeOf (takenIn nothingYet ((255 ∷ 255 ∷ 255 ∷ 255 ∷ []) ∷ (2 ∷ 0 ∷ 0 ∷ 0 ∷ 1 ∷ 0 ∷ 0 ∷ 0 ∷ []) ∷ [] ∷ [])) ≡ Number 4294967298
-unfolding outcomeOf takenIn onward readingsIn totalOn totalAfter answered
+unfolding outcomeOf takenIn onward readingsIn totalOn totalOf totalAfter answered
 in-stretches = refl
 
 -- the reading 4, with this sum so far
