@@ -3,10 +3,11 @@
 --   pieces         == ten records in three pieces, the last of them empty: frames of AUI and of TP0; a runt, a collision, a reset and a frame of AUI; nothing
 --   frames-polled, octets-polled, collisions-polled, total-polled == four counters: their readings, the sum of the differences, and the credits
 --   round-of-octets, round-of-frames == octets that are too many though their frames are few, and one frame too many: the premise does not allow them
---   few-polled     == the premise holds of the four counters
+--   few-polled     == the premise holds of AUI's octets, the first frame of which wraps them
 --   halves         == 2^31 frames, twice: the readings, and a sum that 32 bits do not hold
 --   polls          == three polls of AUI's Readable Frames through the registers, with a frame between the bytes and a reset between the polls
---   reads-polled   == they read it; numbers-polled == what they read, the sum, and the credits
+--   numbers-polled == what they read, the sum, and the credits
+--   reads-polled, few-spanned == they read it, and the premise holds between their first bytes
 use Prim.Native.Nat.{ℕ, _+_, _%_, _^_, _<_}
 use mathlib.Core.Path.{_≡_, refl, ap, ap₂, _∙_}
 use mathlib.Core.List.{List, [], _∷_}
@@ -153,3 +154,7 @@ reads-polled = (
     (record { page = refl; register = refl; sequence = record { begins = refl; first = refl; quiet = refl; enough = lit≤ tt } }, tt),
   ),
 )
+
+few-spanned : Few (attribute aui 0) (readAt brink one) (spans one others)
+unfolding step-computes happening runOf historyOf accepted credit sumOf ifBurst spans Few
+few-spanned = (lit< tt, (lit< tt, tt))

@@ -76,7 +76,7 @@ module _ (c : Counter) (p : Point) (pieces : List (List (List ℕ))) (readings :
     too-large = λ l. ap answered e ∙ totals.no-more _ l;
   }
 
--- its instances: frames-polled to few-polled of Polls, and its halves, whose sum 32 bits do not hold
+-- its instances: brink-given of Instances, frames-polled to few-polled of Polls, and its halves, whose sum 32 bits do not hold
 pub totals-by-polls : TotalsByPolls
 totals-by-polls given g before c l pieces few =
     told c _ pieces _ (totals-from c l (run (start given) before) (fit-run (start given) before g) pieces few)
@@ -134,7 +134,7 @@ module _ (c : Counter) (l : Listed c) where
       (numbers-read (polledTo p t) (fit-run (readAt p t) (t .first ∷ t .rest) (fit-run p (t .lead) fit)) u us (reads .1)
       ∙ ap (λ (q : Point). readingsAt c q (spans u us)) (run-on happens (readAt p t) (t .first ∷ t .rest) (u .lead)))
 
--- its instance: reads-polled and numbers-polled of Polls
+-- its instance: brink-given of Instances; reads-polled, few-spanned and numbers-polled of Polls
 pub totals-by-host : TotalsByHost
 totals-by-host given g before c l t ts reads few =
     let p : Point = run (start given) before in
