@@ -27,7 +27,7 @@ use Rattle.attributes.specs.Nine.{nothingCounted, withPort}
 use Rattle.answer.specs.declared.Answer.{Answer}
 use Rattle.answer.specs.declared.Answer.the-variants.{Done, Value, Refused}
 use Rattle.chip.specs.declared.Core.{Core}
-use Rattle.chip.specs.Chip.{coreUp, withRepeater, withChanges}
+use Rattle.chip.specs.Chip.{usual, coreUp, withRepeater, withChanges}
 use Rattle.access.specs.declared.Acted.{Acted}
 use Rattle.access.specs.Access.{served}
 
@@ -40,7 +40,7 @@ ports c h [] = []
 ports c h (a ∷ rest) = let t : Acted = served a c nothingCounted h in t .port ∷ ports (t .core) (t .host) rest
 
 abbrev pub up : Core
-up = coreUp (record { «transmit_collisions» = 0; «total_octets» = 0 })
+up = coreUp (record { «transmit_collisions» = 0; «total_octets» = 0; choices = usual })
 
 -- TP0's partition bit and AUI's are one, and no other
 abbrev pub changed : Core
@@ -154,7 +154,7 @@ completed = replicate 7 nobody ++ (8 ∷ [])
 
 -- Transmit Collisions and Total Octets are far apart, and so are the counters of TP3
 abbrev pub counting : Core
-counting = coreUp (record { «transmit_collisions» = 0x04030201; «total_octets» = 0x08070605 })
+counting = coreUp (record { «transmit_collisions» = 0x04030201; «total_octets» = 0x08070605; choices = usual })
 
 abbrev pub countingPorts : Nine
 countingPorts =

@@ -2,8 +2,8 @@
 --   Foreseen past p d == what is asked of a burst: the repeater meets it as the past does, and the past tells the ports that it partitions
 --   still-credit      == what is no burst is credited with nothing; no port is partitioned by it
 --   counted-up, counted-next == at power-up, and after a deed
-use Prim.Native.Nat.{ℕ, _+_, _%_, _^_, _<_}
-use mathlib.Core.Path.{_≡_, refl, sym, ap, _∙_}
+use Prim.Native.Nat.{ℕ, _+_, _*_, _%_, _^_, _≤_, _<_}
+use mathlib.Core.Path.{_≡_, refl, sym, ap, subst, _∙_}
 use mathlib.Core.Bool.{Bool, true, false, cond, not, _&&_, _||_, and-true, and-false}
 use mathlib.Core.List.{List, [], _∷_, _++_}
 use native.Mathlib.Omega.{arith}
@@ -18,17 +18,18 @@ use Rattle.record.specs.declared.Burst.{Burst}
 use Rattle.host.specs.declared.Register.{Register}
 use Rattle.host.specs.declared.Register.the-variants as reg
 use Rattle.host.specs.Sequence.{wroteByte}
-use Rattle.attributes.specs.Credits.{Consistent}
+use Rattle.attributes.specs.Credits.{shortTo, Consistent}
 use Rattle.attributes.proofs.NineLaws.{proper-credited, counter-credited, address-credited}
 use Rattle.chip.specs.declared.Kept.{Kept}
 use Rattle.chip.specs.declared.Core.{Core}
 use Rattle.chip.specs.declared.Supply.{Supply}
 use Rattle.chip.specs.Chip.{moved}
+use Rattle.chip.proofs.ChipLaws.{settled-in}
 use Rattle.access.specs.Access.{selectedBy}
 use Rattle.access.proofs.Cases.{obeyed-kept}
 use Rattle.himib.specs.Bursts.{burstCore, notedOn, burstOn}
 use Rattle.himib.specs.Step.{addressedAt}
-use Rattle.himib.specs.Runs.{Point, Given, repeaterAt, counterAt, addressAt, transmitCollisions, totalOctets}
+use Rattle.himib.specs.Runs.{Point, Given, repeaterAt, counterAt, addressAt, transmitCollisions, totalOctets, limitAt}
 use Rattle.himib.specs.Runs as Runs
 use Rattle.himib.proofs.StepLaws.{burst-consistent, counter-addressed, address-addressed, proper-addressed}
 use Rattle.past.specs.Deeds.{Deed, bursts, pulses, ticks, commands, uses, resets, refused, selectsP, selectsR, allows, addresses, asks, reads}
@@ -41,7 +42,7 @@ use Rattle.past.specs.Reads.{Start}
 use Rattle.alone.specs.Doing.{readFrom, usedAt, doing, next, Proper}
 use Rattle.alone.specs.Seen.{BurstSeen, startOf, Counted, dueSeen}
 use Rattle.alone.specs.Selected.{StandsOn}
-use Rattle.alone.proofs.Credits.{Cuts, frame-seen, credit-seen, collision-seen, due-seen}
+use Rattle.alone.proofs.Credits.{Measured, Cuts, frame-seen, credit-seen, collision-seen, due-seen}
 use Rattle.alone.proofs.Partition.{events-more}
 use Rattle.alone.proofs.Rows.{Rowed, rowed-next, whole-seen, bytes-seen}
 
@@ -80,9 +81,9 @@ module _ (past : List Deed) (d : Deed) (none : (A : Type 0) (a : A) (f : Burst �
       (rw (after-append (connected 0) (events i) (cond (clears i) cleared neither ∷ []))
       (ap if (unmoved-by (afterEvents (connected 0) (events i)) (clears i))))
 
-  pub still-credit : (first : ℕ → List ℕ) (i r : ℕ) → i < 9 → creditBy first i r past d ≡ 0
+  pub still-credit : (limit : ℕ) (first : ℕ → List ℕ) (i r : ℕ) → i < 9 → creditBy limit first i r past d ≡ 0
   unfolding creditBy newcomer framesAt
-  still-credit first i r l = rw (unpartitioned i l, none Bool false _, none ℕ 0 _) (go (eqb r 11) (eqb r 12))
+  still-credit limit first i r l = rw (unpartitioned i l, none Bool false _, none ℕ 0 _) (go (eqb r 11) (eqb r 12))
     where
       go : (t u : Bool) → _≡_ {A = ℕ} (cond t 0 (cond u 0 0)) 0
       go true u = refl
@@ -112,13 +113,16 @@ counted-up given fit six = record {
   six = six;
   collisions = none-yet _ (fit .collisions-low);
   octets = none-yet _ (fit .octets-low);
+  limit = refl;
+  limit-low = settled-in (given .kept .choices) .1;
 }
 
 -- A DEED
 
 module _ (start : Start) (past : List Deed) (p : Point) (counted : Counted start past p) where
   -- a burst
-  module _ (b : Burst) (source : List ℕ) (from : length source ≡ 6) (seen : BurstSeen past (repeaterAt p) b) (cuts : Cuts past p b source) where
+  module _ (b : Burst) (source : List ℕ) (from : length source ≡ 6) (seen : BurstSeen past (repeaterAt p) b) (cuts : Cuts past p b source)
+      (octets : 8 * b .n + b .k ≤ b .d) where
     abbrev then : Point
     then = next (bursts b source) p
 
@@ -126,19 +130,25 @@ module _ (start : Start) (past : List Deed) (p : Point) (counted : Counted start
     unfolding notedOn
     consistent = burst-consistent (p .chip .core) b (p .chip .attributes) source
 
-    burst-counter : (i r : ℕ) → i < 9 → r < 13 → counterAt i r then ≡ counterBy (start .counters) (start .addresses) (bursts b source ∷ past) i r
+    measured : Measured (limitAt p) b
+    measured = record { low = counted .limit-low; octets = octets }
+
+    burst-counter : (i r : ℕ) → i < 9 → r < 13
+        → counterAt i r then ≡ counterBy (start .limit) (start .counters) (start .addresses) (bursts b source ∷ past) i r
     unfolding doing burstOn counterBy sumBy
     burst-counter i r l m =
         one-more _ _ _ _ _
         (counter-credited (dueSeen p b source) b source (p .chip .attributes) (counted .fit) consistent i r l m
-        ∙ ap (λ (c : ℕ). (counterAt i r p + c) % 2 ^ 32) (credit-seen past p b source seen start (counted .addresses) (counted .six) from cuts i r l m))
+        ∙ ap (λ (c : ℕ). (counterAt i r p + c) % 2 ^ 32)
+        (credit-seen past p b source seen measured start (counted .addresses) (counted .six) from cuts i r l m
+        ∙ ap (λ (n : ℕ). creditBy n (start .addresses) i r past (bursts b source)) (counted .limit)))
         (counted .counters i r l m)
 
     burst-address : (i : ℕ) → i < 9 → addressAt i then ≡ cond (framesAt past (bursts b source) i) source (addressAt i p)
     unfolding doing burstOn
     burst-address i l =
         address-credited (dueSeen p b source) b source (p .chip .attributes) (counted .fit) consistent i l
-        ∙ ap (λ (t : Bool). cond t source (addressAt i p)) (frame-seen past p b source seen i l)
+        ∙ ap (λ (t : Bool). cond t source (addressAt i p)) (frame-seen past p b source seen measured i l)
 
     burst-six : (t : Bool) (i : ℕ) → i < 9 → length (cond t source (addressAt i p)) ≡ 6
     burst-six true i l = from
@@ -153,11 +163,13 @@ module _ (start : Start) (past : List Deed) (p : Point) (counted : Counted start
           burst-address i l ∙ ap (λ (a : List ℕ). cond (framesAt past (bursts b source) i) source a) (counted .addresses i l);
       six = λ i l. ap length (burst-address i l) ∙ burst-six (framesAt past (bursts b source) i) i l;
       collisions =
-          one-more _ _ _ _ _ (ap (λ (c : ℕ). (transmitCollisions p + c) % 2 ^ 32) (collision-seen past p b source seen)) (counted .collisions);
+          one-more _ _ _ _ _ (ap (λ (c : ℕ). (transmitCollisions p + c) % 2 ^ 32) (collision-seen past p b source seen measured)) (counted .collisions);
       octets =
           one-more _ _ _ _ _
-          (ap (λ (c : ℕ). (totalOctets p + c) % 2 ^ 32) (due-seen past p b source seen start (counted .addresses) (counted .six) from .octets))
+          (ap (λ (c : ℕ). (totalOctets p + c) % 2 ^ 32) (due-seen past p b source seen measured start (counted .addresses) (counted .six) from .octets))
           (counted .octets);
+      limit = counted .limit;
+      limit-low = counted .limit-low;
     }
 
   -- what is no burst, and writes the address of port q, or of nobody
@@ -175,12 +187,14 @@ module _ (start : Start) (past : List Deed) (p : Point) (counted : Counted start
     counted-still given = record {
       fit = rw attributes (proper-addressed q bytes (p .chip .attributes) (counted .fit));
       counters = λ i r l m.
-          no-more _ _ _ _ _ (rw attributes (counter-addressed q bytes (p .chip .attributes) i r)) (still-credit past d none (start .addresses) i r l)
+          no-more _ _ _ _ _ (rw attributes (counter-addressed q bytes (p .chip .attributes) i r)) (still-credit past d none (start .limit) (start .addresses) i r l)
           (counted .counters i r l m);
       addresses = given;
       six = λ i l. ap length (still-address i l) ∙ still-six (eqb q i) i l;
       collisions = no-more _ _ _ _ _ (ap (λ (k : Kept). k .«transmit_collisions») kept) (none ℕ 0 _) (counted .collisions);
       octets = no-more _ _ _ _ _ (ap (λ (k : Kept). k .«total_octets») kept) (none ℕ 0 _) (counted .octets);
+      limit = ap (λ (k : Kept). k .choices .«short_limit») kept ∙ counted .limit;
+      limit-low = subst (λ (k : Kept). k .choices .«short_limit» ≤ shortTo) (sym kept) (counted .limit-low);
     }
 
   -- a byte written to an address
@@ -238,7 +252,7 @@ pub counted-next : (start : Start) (past : List Deed) (d : Deed) (p : Point) →
     → Counted start past p → Counted start (d ∷ past) (next d p)
 unfolding doing usedAt moved addressBy framesAt completes
 counted-next start past (bursts b source) p proper foreseen sized row counted =
-    counted-burst start past p counted b source (proper .1) (foreseen .0) (foreseen .1)
+    counted-burst start past p counted b source (proper .1) (foreseen .0) (foreseen .1) (proper .0 .octets-within)
 counted-next start past (pulses mask) p proper foreseen sized row counted =
     counted-other start past p counted row (pulses mask) (λ A a f. refl) refl refl (λ i. refl)
 counted-next start past ticks p proper foreseen sized row counted =

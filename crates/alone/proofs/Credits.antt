@@ -1,5 +1,6 @@
 -- What the chip credits a burst with is what the past credits it with. The chip names one port and one class; the past asks each port and each class by itself.
 -- Assumes nothing.
+--   Measured limit b == what the class of an accepted burst goes by: the limit is low, and the octets fit the bit times
 --   same-seen       == two addresses of six bytes
 --   Cuts past p b source == the ports that the burst partitions at the point p are those that the past tells
 --   cuts-seen       == so it is if both tell which ports are partitioned before it and after it
@@ -7,7 +8,7 @@
 --   credit-seen     == the credit of each counter
 --   collision-seen  == the credit of Transmit Collisions
 --   due-seen        == the address that changes, and the octets
-use Prim.Native.Nat.{ℕ, zero, suc, _≤_, _<_}
+use Prim.Native.Nat.{ℕ, zero, suc, _+_, _*_, _≤_, _<_}
 use mathlib.Core.Path.{_≡_, refl, sym, ap, ap₂, _∙_}
 use mathlib.Core.Bool.{Bool, true, false, cond, not, _&&_, and-true, and-false, and-comm, true≢false}
 use mathlib.Core.List.{List, [], _∷_}
@@ -25,12 +26,12 @@ use Rattle.attributes.specs.declared.Share.{Share}
 use Rattle.attributes.specs.declared.Due.{Due}
 use Rattle.attributes.specs.OneClass.{Falls}
 use Rattle.attributes.specs.OneClass as fall
-use Rattle.attributes.specs.Credits.{classOf, classPort, sameAddress, dueOf, shareOf, creditFor, frameAt}
+use Rattle.attributes.specs.Credits.{shortTo, classOf, classPort, sameAddress, dueOf, shareOf, creditFor, frameAt}
 use Rattle.attributes.specs.Credits as Att
 use Rattle.attributes.proofs.OneClass.{falls}
 use Rattle.attributes.proofs.NineLaws.{changed-exactly}
 use Rattle.himib.specs.Bursts.{metBy, notedOn}
-use Rattle.himib.specs.Runs.{Point, repeaterAt, addressAt}
+use Rattle.himib.specs.Runs.{Point, repeaterAt, addressAt, limitAt}
 use Rattle.past.specs.Deeds.{Deed, bursts}
 use Rattle.past.specs.Settings.{enabledBy}
 use Rattle.past.specs.Link.{passesBy}
@@ -44,36 +45,55 @@ use Rattle.alone.specs.Seen.{burstSeen, BurstSeen, dueSeen, DueSeen, Par
 -- CLASSES
 
 -- the class, by each of the six tests
-abbrev Classed : Burst → ℕ → Type 0
-Classed b class =
+abbrev Classed : ℕ → Burst → ℕ → Type 0
+Classed limit b class =
     (eqb class 0 ≡ readable b)
     × (eqb class 2 ≡ faulty b)
     × (eqb class 3 ≡ misaligned b)
     × (eqb class 4 ≡ tooLong b)
-    × (eqb class 5 ≡ short b)
-    × (eqb class 6 ≡ runt b)
+    × (eqb class 5 ≡ short limit b)
+    × (eqb class 6 ≡ runt limit b)
 
-classed : (b : Burst) (class : ℕ) → Falls b class → Classed b class
-classed b class (fall.short d) = rw (lt-ltb (b .d) 78 d, lt-leb 78 (b .d) d) (refl, refl, refl, refl, refl, refl)
-classed b class (fall.runt d n) =
+-- what the class of an accepted burst goes by: with such a limit a burst with 64 octets or more is no short event
+pub record Measured (limit : ℕ) (b : Burst) : Type 0 where
+  pub low : limit ≤ shortTo
+  pub octets : 8 * b .n + b .k ≤ b .d
+
+classed : (limit : ℕ) (b : Burst) (class : ℕ) → Measured limit b → Falls limit b class → Classed limit b class
+classed limit b class measured (fall.short d) =
+    let low = measured .low in
+    let octets = measured .octets in
+    let m : b .n < 64 = omega arith in
+    let l : b .n ≤ 1518 = omega arith in
+    rw (lt-ltb (b .d) limit d, lt-leb limit (b .d) d, lt-leb 64 (b .n) m, le-ltb 1518 (b .n) l) (refl, refl, refl, refl, refl, refl)
+classed limit b class measured (fall.runt d n) =
     let m : b .n ≤ 1518 = omega arith in
-    rw (le-ltb (b .d) 78 d, le-leb 78 (b .d) d, lt-ltb (b .n) 64 n, lt-leb 64 (b .n) n, le-ltb 1518 (b .n) m) (refl, refl, refl, refl, refl, refl)
-classed b class (fall.tooLong d n) =
+    rw (le-ltb (b .d) limit d, le-leb limit (b .d) d, lt-ltb (b .n) 64 n, lt-leb 64 (b .n) n, le-ltb 1518 (b .n) m) (refl, refl, refl, refl, refl, refl)
+classed limit b class measured (fall.tooLong d n) =
     let m : 64 ≤ b .n = omega arith in
-    rw (le-ltb (b .d) 78 d, le-leb 78 (b .d) d, le-ltb (b .n) 64 m, le-leb 64 (b .n) m, lt-ltb 1518 (b .n) n, lt-leb (b .n) 1518 n)
+    rw (le-ltb (b .d) limit d, le-leb limit (b .d) d, le-ltb (b .n) 64 m, le-leb 64 (b .n) m, lt-ltb 1518 (b .n) n, lt-leb (b .n) 1518 n)
     (refl, refl, refl, refl, refl, refl)
-classed b class (fall.misaligned d m l f k) =
-    rw (le-ltb (b .d) 78 d, le-leb 78 (b .d) d, le-ltb (b .n) 64 m, le-leb 64 (b .n) m, le-ltb 1518 (b .n) l, le-leb (b .n) 1518 l, f, lt-ltb 0 (b .k) k)
+classed limit b class measured (fall.misaligned d m l f k) =
+    rw (
+      le-ltb (b .d) limit d,
+      le-leb limit (b .d) d,
+      le-ltb (b .n) 64 m,
+      le-leb 64 (b .n) m,
+      le-ltb 1518 (b .n) l,
+      le-leb (b .n) 1518 l,
+      f,
+      lt-ltb 0 (b .k) k,
+    )
     (rw (ne-eqb (b .k) 0 (λ z. omega arith)) (refl, refl, refl, refl, refl, refl))
-classed b class (fall.faulty d m l f k) =
-    rw (le-ltb (b .d) 78 d, le-leb 78 (b .d) d, le-ltb (b .n) 64 m, le-leb 64 (b .n) m, le-ltb 1518 (b .n) l, le-leb (b .n) 1518 l, f, k)
+classed limit b class measured (fall.faulty d m l f k) =
+    rw (le-ltb (b .d) limit d, le-leb limit (b .d) d, le-ltb (b .n) 64 m, le-leb 64 (b .n) m, le-ltb 1518 (b .n) l, le-leb (b .n) 1518 l, f, k)
     (refl, refl, refl, refl, refl, refl)
-classed b class (fall.good d m l f) =
-    rw (le-ltb (b .d) 78 d, le-leb 78 (b .d) d, le-ltb (b .n) 64 m, le-leb 64 (b .n) m, le-ltb 1518 (b .n) l, le-leb (b .n) 1518 l, f)
+classed limit b class measured (fall.good d m l f) =
+    rw (le-ltb (b .d) limit d, le-leb limit (b .d) d, le-ltb (b .n) 64 m, le-leb 64 (b .n) m, le-ltb 1518 (b .n) l, le-leb (b .n) 1518 l, f)
     (refl, refl, refl, refl, refl, refl)
 
-class-seen : (b : Burst) → Classed b (classOf b)
-class-seen b = classed b (classOf b) (falls b)
+class-seen : (limit : ℕ) (b : Burst) → Measured limit b → Classed limit b (classOf limit b)
+class-seen limit b measured = classed limit b (classOf limit b) measured (falls limit b)
 
 -- ADDRESSES
 
@@ -126,22 +146,22 @@ below-13 P a b c d e f g h i j k l m (suc (suc (suc (suc (suc (suc (suc (suc (su
 below-13 P a b c d e f g h i j k l m (suc (suc (suc (suc (suc (suc (suc (suc (suc (suc (suc (suc (suc r))))))))))))) z = absurd (omega arith)
 
 -- a port that is heard so and is single so is credited so
-module _ (share : Share) (b : Burst) (h i : ℕ) (single : share .single ≡ alone b h i) (heard : share .heard ≡ has h i)
-    (collision : share .collision ≡ (has h i && crash b h)) (class : share .class ≡ classOf b) where
+module _ (share : Share) (limit : ℕ) (b : Burst) (h i : ℕ) (measured : Measured limit b) (single : share .single ≡ alone b h i) (heard : share .heard ≡ has h i)
+    (collision : share .collision ≡ (has h i && crash b h)) (class : share .class ≡ classOf limit b) where
   -- in a class: with any test that the class is
-  in-class : (r : ℕ) (t : Bool) → eqb (classOf b) r ≡ t → Att.inClass share r ≡ (alone b h i && t)
+  in-class : (r : ℕ) (t : Bool) → eqb (classOf limit b) r ≡ t → Att.inClass share r ≡ (alone b h i && t)
   in-class r t e = rw (class, e, single)
 
   abbrev Same : ℕ → Type 0
-  Same r = creditFor share b r ≡ creditOf b h i r
+  Same r = creditFor share b r ≡ creditOf limit b h i r
 
   same-0 : Same 0
   unfolding creditFor creditOf
-  same-0 = ap if (in-class 0 (readable b) (class-seen b .0))
+  same-0 = ap if (in-class 0 (readable b) (class-seen limit b measured .0))
 
   same-1 : Same 1
   unfolding creditFor creditOf
-  same-1 = ap (λ (t : Bool). cond t (b .n) 0) (in-class 0 (readable b) (class-seen b .0))
+  same-1 = ap (λ (t : Bool). cond t (b .n) 0) (in-class 0 (readable b) (class-seen limit b measured .0))
 
   same-7 : Same 7
   unfolding creditFor creditOf
@@ -149,23 +169,23 @@ module _ (share : Share) (b : Burst) (h i : ℕ) (single : share .single ≡ alo
 
   same-2 : Same 2
   unfolding creditFor creditOf
-  same-2 = ap if (in-class 2 (faulty b) (class-seen b .1))
+  same-2 = ap if (in-class 2 (faulty b) (class-seen limit b measured .1))
 
   same-3 : Same 3
   unfolding creditFor creditOf
-  same-3 = ap if (in-class 3 (misaligned b) (class-seen b .2))
+  same-3 = ap if (in-class 3 (misaligned b) (class-seen limit b measured .2))
 
   same-4 : Same 4
   unfolding creditFor creditOf
-  same-4 = ap if (in-class 4 (tooLong b) (class-seen b .3))
+  same-4 = ap if (in-class 4 (tooLong b) (class-seen limit b measured .3))
 
   same-5 : Same 5
   unfolding creditFor creditOf
-  same-5 = ap if (in-class 5 (short b) (class-seen b .4))
+  same-5 = ap if (in-class 5 (short limit b) (class-seen limit b measured .4))
 
   same-6 : Same 6
   unfolding creditFor creditOf
-  same-6 = ap if (in-class 6 (runt b) (class-seen b .5))
+  same-6 = ap if (in-class 6 (runt limit b) (class-seen limit b measured .5))
 
   same-8 : Same 8
   unfolding creditFor creditOf
@@ -206,7 +226,7 @@ cuts-seen past p b source before after i l =
     ∙ and-comm (has is i) (not (has was i))
     ∙ ap₂ (λ (t u : Bool). not t && u) (before i l) (after i l)
 
-module _ (past : List Deed) (p : Point) (b : Burst) (source : List ℕ) (seen : BurstSeen past (repeaterAt p) b) where
+module _ (past : List Deed) (p : Point) (b : Burst) (source : List ℕ) (seen : BurstSeen past (repeaterAt p) b) (measured : Measured (limitAt p) b) where
   abbrev h : ℕ
   h = heardBy past b
 
@@ -231,7 +251,7 @@ module _ (past : List Deed) (p : Point) (b : Burst) (source : List ℕ) (seen : 
 
   pub frame-seen : (i : ℕ) → i < 9 → frameAt (dueSeen p b source) i ≡ framesAt past (bursts b source) i
   unfolding notedOn dueOf frameAt shareOf framesAt
-  frame-seen i l = ap₂ _&&_ (single-seen i l) (class-seen b .0)
+  frame-seen i l = ap₂ _&&_ (single-seen i l) (class-seen (limitAt p) b measured .0)
 
   pub collision-seen : if (burstSeen (repeaterAt p) b .effect .«transmit_collision») ≡ collisionBy past (bursts b source)
   unfolding collisionBy
@@ -265,7 +285,7 @@ module _ (past : List Deed) (p : Point) (b : Burst) (source : List ℕ) (seen : 
   octets-seen : due .octets ≡ octetsBy past (bursts b source)
   unfolding notedOn dueOf classPort octetsBy
   octets-seen =
-      ap₂ (λ (t u : Bool). cond (t && u) (b .n) 0) (go (burstSeen (repeaterAt p) b .effect .collision) refl) (class-seen b .0)
+      ap₂ (λ (t u : Bool). cond (t && u) (b .n) 0) (go (burstSeen (repeaterAt p) b .effect .collision) refl) (class-seen (limitAt p) b measured .0)
     where
       go : (t : Bool) → burstSeen (repeaterAt p) b .effect .collision ≡ t
           → ltb (cond t nobody (burstSeen (repeaterAt p) b .effect .single)) 9 ≡ (one h && not (crash b h))
@@ -285,21 +305,21 @@ module _ (past : List Deed) (p : Point) (b : Burst) (source : List ℕ) (seen : 
     due-seen = record { changed = changed-seen; octets = octets-seen }
 
     pub credit-seen : Cuts past p b source → (i r : ℕ) → i < 9 → r < 13
-        → Att.creditOf (dueSeen p b source) b i r ≡ creditBy (start .addresses) i r past (bursts b source)
+        → Att.creditOf (dueSeen p b source) b i r ≡ creditBy (limitAt p) (start .addresses) i r past (bursts b source)
     unfolding notedOn dueOf Att.creditOf creditFor creditBy shareOf partitionCredit
     credit-seen cut i r l =
-        below-13 (λ r. Att.creditOf (dueSeen p b source) b i r ≡ creditBy (start .addresses) i r past (bursts b source))
-        (same-0 share b h i single heard collision refl)
-        (same-1 share b h i single heard collision refl)
-        (same-2 share b h i single heard collision refl)
-        (same-3 share b h i single heard collision refl)
-        (same-4 share b h i single heard collision refl)
-        (same-5 share b h i single heard collision refl)
-        (same-6 share b h i single heard collision refl)
-        (same-7 share b h i single heard collision refl)
-        (same-8 share b h i single heard collision refl)
-        (same-9 share b h i single heard collision refl)
-        (same-10 share b h i single heard collision refl)
+        below-13 (λ r. Att.creditOf (dueSeen p b source) b i r ≡ creditBy (limitAt p) (start .addresses) i r past (bursts b source))
+        (same-0 share (limitAt p) b h i measured single heard collision refl)
+        (same-1 share (limitAt p) b h i measured single heard collision refl)
+        (same-2 share (limitAt p) b h i measured single heard collision refl)
+        (same-3 share (limitAt p) b h i measured single heard collision refl)
+        (same-4 share (limitAt p) b h i measured single heard collision refl)
+        (same-5 share (limitAt p) b h i measured single heard collision refl)
+        (same-6 share (limitAt p) b h i measured single heard collision refl)
+        (same-7 share (limitAt p) b h i measured single heard collision refl)
+        (same-8 share (limitAt p) b h i measured single heard collision refl)
+        (same-9 share (limitAt p) b h i measured single heard collision refl)
+        (same-10 share (limitAt p) b h i measured single heard collision refl)
         (ap if (cut i l))
         (ap if (changed-seen i l))
         r

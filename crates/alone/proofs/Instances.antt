@@ -1,10 +1,12 @@
--- The statements of specs/Alone.antt at one list of records: what the chip shows and what the past says, each computed by itself. Assumes nothing.
+-- The statements of specs/Alone.antt at one list of records: what the chip shows and what the past says, each computed by itself; and that of specs/Limit.antt.
+-- Assumes nothing.
 --   zero-supplied  == counters and addresses of 0 can be given
 --   sample-shown, sample-told == the answers of the sample run of document 01
 --   tale           == links, a frame, a collision that partitions, Sets, a Get, an enable, an address write
 --   one-shown      == the same answers and ports with counters that start at 1
 --   ports-shown, ports-told; counts-shown, counts-told; bits-shown, bits-told == the ports, the counters, the bits after it
-use Prim.Native.Nat.{ℕ, _<_}
+--   between        == a burst that is a runt with one limit and a short event with another: runt-shown, short-shown, cores-shown
+use Prim.Native.Nat.{ℕ, _+_, _<_}
 use mathlib.Core.Path.{_≡_, refl, ap}
 use mathlib.Core.Bool.{Bool, true, false}
 use mathlib.Core.List.{List, [], _∷_, _++_, map}
@@ -12,13 +14,17 @@ use lib.Dec.{lit<}
 use lib.ListN.{length, getD, replicate}
 use Rattle.ports.specs.Sets.{has}
 use Rattle.burst.specs.declared.Word.the-variants.{Rep, Jam}
+use Rattle.record.specs.Records.{dReadRecord}
 use Rattle.repeater.specs.Door.{portAt}
 use Rattle.answer.specs.declared.Answer.{Answer}
 use Rattle.answer.specs.declared.Answer.the-variants.{Done, Sent, Value, Refused}
 use Rattle.attributes.proofs.NineLaws.{address-alike}
+use Rattle.chip.specs.declared.Core.{Core}
+use Rattle.chip.specs.Chip.{withChoices, withKept}
 use Rattle.himib.specs.Runs.{Point, Happening, happening, historyOf, runOf, answersIn, start, allAt, repeaterAt}
-use Rattle.himib.specs.Runs.{partitionedAt, linkedAt, enabledAt, counterAt, addressAt, transmitCollisions, totalOctets}
+use Rattle.himib.specs.Runs.{partitionedAt, linkedAt, enabledAt, counterAt, addressAt, transmitCollisions, totalOctets, limitAt}
 use Rattle.himib.proofs.Runs.{all-given, found, found-once}
+use Rattle.pass.specs.Limit.{withLimit}
 use Rattle.pass.proofs.Computing.{step-computes}
 use Rattle.past.specs.Deeds.{Deed, deedsFrom}
 use Rattle.past.specs.Settings.{enabledBy, testedBy, alternateBy}
@@ -29,10 +35,10 @@ use Rattle.past.specs.Addresses.{addressBy, counterBy}
 use Rattle.past.specs.Status.{sqeBy, gBy}
 use Rattle.past.specs.Changes.{changeBy, allowedBy, errorBy}
 use Rattle.past.specs.Answers.{answersBy}
-use Rattle.past.specs.Sheet.{burst, clash, both, auiPort, tested, someone, up, frame, throughS, select, writes, enable, sample, sampleAnswers}
+use Rattle.past.specs.Sheet.{burst, clash, tp0, both, auiPort, tested, someone, up, frame, throughS, select, writes, enable, sample, sampleAnswers}
 use Rattle.past.specs.Sheet as sheet
 use Rattle.past.proofs.Computing.{telling}
-use Rattle.alone.specs.Judged.{happens, history}
+use Rattle.alone.specs.Judged.{happens, history, run}
 use Rattle.alone.specs.Alone.{Supplied}
 
 pub zero-supplied : Supplied (allAt 0)
@@ -97,8 +103,8 @@ countsAt p hs =
 
 abbrev countsBy : List Deed → List ℕ
 countsBy past =
-    map (λ r. counterBy (sheet.allAt 0 .counters) (sheet.allAt 0 .addresses) past 0 r) (0 ∷ 1 ∷ 7 ∷ 11 ∷ 12 ∷ [])
-    ++ (counterBy (sheet.allAt 0 .counters) (sheet.allAt 0 .addresses) past 1 11 ∷ sumBy collisionBy past ∷ sumBy octetsBy past
+    map (λ r. counterBy 78 (sheet.allAt 0 .counters) (sheet.allAt 0 .addresses) past 0 r) (0 ∷ 1 ∷ 7 ∷ 11 ∷ 12 ∷ [])
+    ++ (counterBy 78 (sheet.allAt 0 .counters) (sheet.allAt 0 .addresses) past 1 11 ∷ sumBy collisionBy past ∷ sumBy octetsBy past
     ∷ addressBy (sheet.allAt 0 .addresses) past 0)
     ++ addressBy (sheet.allAt 0 .addresses) past 8
 
@@ -146,3 +152,46 @@ fromOne = replicate 4 Done ++ (Sent Rep 0x102 ∷ Done ∷ Done ∷ Value 0x02 �
 one-shown : (answersIn (history (start (allAt 1)) sample) ≡ fromOne) × (found happens portsAt (start (allAt 1)) tale ≡ ports)
 unfolding step-computes happening runOf historyOf
 one-shown = (refl, found-once happens portsAt (start (allAt 1)) tale refl)
+
+-- WHATEVER THE LIMIT
+
+-- TP0's link passes, and TP0 is heard alone for 77 bit times: a runt with the limit 75, and a short event with 81
+abbrev between : List (List ℕ)
+between = up ++ (burst tp0 0 77 9 ∷ [])
+
+-- one more burst, and reads of Short Events and of Runts
+abbrev more : List (List ℕ)
+more = (burst tp0 0 600 64 ∷ select 16 5) ++ (dReadRecord ∷ select 16 6) ++ (dReadRecord ∷ [])
+
+-- the limit, TP0's Short Events, Runts and the sum of both, its other counters, and Total Octets
+abbrev partedAt : Point → List Happening → List ℕ
+partedAt p hs =
+    (limitAt p ∷ counterAt 0 5 p ∷ counterAt 0 6 p ∷ (counterAt 0 5 p + counterAt 0 6 p) ∷ [])
+    ++ map (λ r. counterAt 0 r p) (0 ∷ 1 ∷ 2 ∷ 3 ∷ 4 ∷ 7 ∷ 8 ∷ 9 ∷ 10 ∷ 11 ∷ 12 ∷ [])
+    ++ (totalOctets p ∷ [])
+
+-- the answers to all of it, with these bytes for the two reads
+abbrev answersWith : ℕ → ℕ → List Answer
+answersWith shorts runts = replicate 4 Done ++ (Sent Rep 0x102 ∷ Sent Rep 0x102 ∷ Done ∷ Done ∷ Value shorts ∷ Done ∷ Done ∷ Value runts ∷ [])
+
+abbrev at75 : Point
+at75 = start (withLimit (allAt 0) 75)
+
+abbrev at81 : Point
+at81 = start (withLimit (allAt 0) 81)
+
+runt-shown : (found happens partedAt at75 between ≡ (75 ∷ 0 ∷ 1 ∷ 1 ∷ []) ++ replicate 12 0)
+    × (answersIn (history at75 (between ++ more)) ≡ answersWith 0 1)
+unfolding step-computes happening runOf historyOf
+runt-shown = (found-once happens partedAt at75 between refl, refl)
+
+short-shown : (found happens partedAt at81 between ≡ (81 ∷ 1 ∷ 0 ∷ 1 ∷ []) ++ replicate 12 0)
+    × (answersIn (history at81 (between ++ more)) ≡ answersWith 1 0)
+unfolding step-computes happening runOf historyOf
+short-shown = (found-once happens partedAt at81 between refl, refl)
+
+cores-shown : let c : Core = run at75 between .chip .core in
+    let d : Core = run at81 between .chip .core in
+    d ≡ withKept c (withChoices (c .kept) (d .kept .choices))
+unfolding step-computes happening runOf
+cores-shown = refl

@@ -20,3 +20,4 @@ pub mod Sequenced
 pub mod Values
 pub mod Whole
 pub mod ShownByPast
+pub mod Limit

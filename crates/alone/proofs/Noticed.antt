@@ -193,7 +193,7 @@ module _ (start : Start) (past : List Deed) (c : Core) (before : Masks past (c .
 pub noticed-up : (given : Supply) → Noticed (startOf given) [] (Runs.start given)
 unfolding changeBy allowedBy errorBy gBy cameSince
 noticed-up given =
-    noticed (startOf given) [] (Runs.start given) (up-shown (startOf given) [] (given .kept) (λ r j. refl) (λ r. refl) refl refl)
+    noticed (startOf given) [] (Runs.start given) (up-shown (startOf given) [] (Runs.start given .chip .core .kept) (λ r j. refl) (λ r. refl) refl refl)
 
 module _ (start : Start) (past : List Deed) (p : Point) (before : Masks past (repeaterAt p)) (s : Shown start past (p .chip .core)) where
   abbrev Follows : Deed → Type 0

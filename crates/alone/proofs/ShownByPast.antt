@@ -1,4 +1,5 @@
 -- The past alone: every statement of specs/Alone.antt holds. Assumes nothing.
+--   shown == all that a run from power-up shows
 --   settings-by-past, links-by-past, partition-by-records == the ports
 --   counters-by-records, status-by-past == counters and addresses; status bits, change bits, enables, interface error, G
 --   places-by-past == where a byte sequence stands
@@ -38,7 +39,7 @@ use Rattle.alone.proofs.Partition.{partitioned-mask}
 use Rattle.alone.proofs.Whole.{Whole, whole-up, whole-run, answer-after, answers-run}
 
 -- all that a run from power-up shows
-shown : (given : Supply) → Supplied given → (rs : List (List ℕ)) → Whole (startOf given) (pastOf rs) (after given rs)
+pub shown : (given : Supply) → Supplied given → (rs : List (List ℕ)) → Whole (startOf given) (pastOf rs) (after given rs)
 shown given s rs = whole-run (startOf given) [] (start given) rs (whole-up given s)
 
 -- THE PORTS

@@ -1,7 +1,8 @@
 -- All that the chip shows is what the past says, from deed to deed and so over any records; and every answer with it. Assumes nothing.
 --   Whole start past p  == all of it, at the point p after a past
 --   whole-up, whole-next, whole-run == at power-up, after a deed, and after records
---   answer-seen         == the answer to a deed
+--   step-did            == a record leads where its deed does
+--   answer-seen, answer-after == the answer to a deed, and to a record
 use Prim.Native.Nat.{ℕ, _<_}
 use mathlib.Core.Path.{_≡_, refl, sym, ap, ap₂, subst, _∙_}
 use mathlib.Core.List.{List, [], _∷_}
@@ -81,7 +82,9 @@ module _ (start : Start) (past : List Deed) (p : Point) (w : Whole start past p)
     seen-now = burst-seen past r b (w .settled) links-now (w .stood) (proper .0 .mask-below)
 
     due-now : DueSeen start past p b source
-    due-now = due-seen past p b source seen-now start (w .counted .addresses) (w .counted .six) (proper .1)
+    due-now =
+        due-seen past p b source seen-now (record { low = w .counted .limit-low; octets = proper .0 .octets-within }) start (w .counted .addresses)
+        (w .counted .six) (proper .1)
 
   -- a register that is read next
   value-now : (register : Register) (size : ℕ) → Proper (uses (reads register size)) → (i : ℕ) → i < size
@@ -182,7 +185,7 @@ module _ (start : Start) (past : List Deed) (p : Point) (w : Whole start past p)
 
 module _ (start : Start) where
   module _ (past : List Deed) (p : Point) (w : Whole start past p) (bs : List ℕ) where
-    step-did : Runs.happening p bs .after ≡ next (deedAfter past bs) p
+    pub step-did : Runs.happening p bs .after ≡ next (deedAfter past bs) p
     unfolding happening
     step-did = ap (λ (t : Stepped). at (t .chip) (t .host)) (did past p (w .page) (w .register) bs)
 

@@ -65,7 +65,7 @@ PartitionByRecords =
 -- ---- The counters and addresses
 
 pub record CountedAs (first : Start) (past : List Deed) (p : Point) : Type 0 where
-  pub counters : (i r : ℕ) → i < 9 → r < 13 → counterAt i r p ≡ counterBy (first .counters) (first .addresses) past i r
+  pub counters : (i r : ℕ) → i < 9 → r < 13 → counterAt i r p ≡ counterBy (first .limit) (first .counters) (first .addresses) past i r
   pub addresses : (i : ℕ) → i < 9 → addressAt i p ≡ addressBy (first .addresses) past i
   pub collisions : transmitCollisions p ≡ (first .collisions + sumBy collisionBy past) % 2 ^ 32
   pub octets : totalOctets p ≡ (first .octets + sumBy octetsBy past) % 2 ^ 32

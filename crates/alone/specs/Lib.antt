@@ -4,3 +4,4 @@ pub mod Seen
 pub mod Selected
 pub mod Judged
 pub mod Alone
+pub mod Limit

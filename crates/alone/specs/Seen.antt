@@ -6,9 +6,9 @@
 --   BurstSeen past r b == what the repeater makes of a burst is what the past makes of it
 --   DueSeen start past p b source == so is what it credits beside a class: the address that changes, and the octets
 --   Reported past r   == so are the status bits
---   Counted, Noticed  == so are counters, totals and addresses; change bits, enables, interface error and G
+--   Counted, Noticed  == so are counters, totals, addresses and the limit of short events; change bits, enables, interface error and G
 -- Assumes nothing.
-use Prim.Native.Nat.{ℕ, _+_, _%_, _^_, _<_}
+use Prim.Native.Nat.{ℕ, _+_, _%_, _^_, _≤_, _<_}
 use mathlib.Core.Path.{_≡_}
 use mathlib.Core.Bool.{_&&_}
 use mathlib.Core.List.{List, []}
@@ -24,10 +24,11 @@ use Rattle.repeater.specs.Repeater.{alternateFor, burstOf, partitionedOf}
 use Rattle.repeater.specs.Events.{standingAt}
 use Rattle.attributes.specs.declared.Due.{Due}
 use Rattle.attributes.specs.Nine.{Proper}
+use Rattle.attributes.specs.Credits.{shortTo}
 use Rattle.chip.specs.declared.Supply.{Supply}
 use Rattle.himib.specs.Bursts.{activityOf, notedOn}
 use Rattle.himib.specs.Runs as Runs
-use Rattle.himib.specs.Runs.{Point, counterAt, addressAt, transmitCollisions, totalOctets}
+use Rattle.himib.specs.Runs.{Point, counterAt, addressAt, transmitCollisions, totalOctets, limitAt}
 use Rattle.past.specs.Deeds.{Deed, bursts}
 use Rattle.past.specs.Settings.{enabledBy, testedBy, alternateBy}
 use Rattle.past.specs.Link.{passesBy}
@@ -80,15 +81,18 @@ startOf given = record {
   addresses = λ i. addressAt i (Runs.start given);
   collisions = given .kept .«transmit_collisions»;
   octets = given .kept .«total_octets»;
+  limit = limitAt (Runs.start given);
 }
 
 pub record Counted (start : Start) (past : List Deed) (p : Point) : Type 0 where
   pub fit : Proper (p .chip .attributes)
-  pub counters : (i r : ℕ) → i < 9 → r < 13 → counterAt i r p ≡ counterBy (start .counters) (start .addresses) past i r
+  pub counters : (i r : ℕ) → i < 9 → r < 13 → counterAt i r p ≡ counterBy (start .limit) (start .counters) (start .addresses) past i r
   pub addresses : (i : ℕ) → i < 9 → addressAt i p ≡ addressBy (start .addresses) past i
   pub six : (i : ℕ) → i < 9 → length (addressAt i p) ≡ 6
   pub collisions : transmitCollisions p ≡ (start .collisions + sumBy collisionBy past) % 2 ^ 32
   pub octets : totalOctets p ≡ (start .octets + sumBy octetsBy past) % 2 ^ 32
+  pub limit : limitAt p ≡ start .limit
+  pub limit-low : limitAt p ≤ shortTo
 
 abbrev pub dueSeen : Point → Burst → List ℕ → Due
 dueSeen p b source = notedOn (p .chip .core) (p .chip .attributes) b source .due

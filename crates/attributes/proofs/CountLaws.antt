@@ -27,11 +27,12 @@ use Rattle.attributes.specs.Nine.{readableFrames, readableOctets, collis
 use Rattle.attributes.specs.Nine.{counterCount, portOf, withPort, withAddress, readdressed}
 use Rattle.attributes.specs.Credits.{lateAbove, mismatchAbove, classOf, dueOf, shareOf, one, creditFor, creditsOf, creditOf, counted, creditedWith, creditedAt}
 use Rattle.attributes.specs.Credits.{creditedAll}
-use Rattle.attributes.specs.OneClass.{Falls, short, runt, tooLong, misaligned, faulty, good}
+use Rattle.attributes.specs.OneClass.{classes, Among}
+use Rattle.attributes.specs.OneClass as Class
 use Rattle.attributes.specs.Flat.{place, flatSize, spot, spotsSize, listed, recordAt, nineOf, Counters, Counting, Readdressed, Credited}
 use Rattle.attributes.specs.Counts.{countedFor, framedPort, Written, Laid}
 use Rattle.attributes.proofs.Listed.{listed-same, set-listed, each-listed}
-use Rattle.attributes.proofs.OneClass.{falls}
+use Rattle.attributes.proofs.OneClass.{falls, class-listed}
 use Rattle.attributes.proofs.NineLaws.{credits-at}
 use Rattle.attributes.proofs.FlatLaws.{port-held, due-any, stored-at, spot-stored, fine-stored}
 
@@ -168,28 +169,22 @@ counting-as {f} {flat} {later} g e a =
 -- WHAT IS DUE
 
 -- the six classes are no other register, and below the last
-never : (burst : Burst) (k : ℕ) → eqb 0 k ≡ false → eqb 2 k ≡ false → eqb 3 k ≡ false → eqb 4 k ≡ false → eqb 5 k ≡ false → eqb 6 k ≡ false
-    → eqb (classOf burst) k ≡ false
-never burst k e0 e2 e3 e4 e5 e6 = go (classOf burst) (falls burst)
-  where
-    go : (r : ℕ) → Falls burst r → eqb r k ≡ false
-    go r (short d) = e5
-    go r (runt d n) = e6
-    go r (tooLong d n) = e4
-    go r (misaligned d m l f x) = e3
-    go r (faulty d m l f x) = e2
-    go r (good d m l f) = e0
+never : (class k : ℕ) → Among class classes → eqb 0 k ≡ false → eqb 2 k ≡ false → eqb 3 k ≡ false → eqb 4 k ≡ false → eqb 5 k ≡ false → eqb 6 k ≡ false
+    → eqb class k ≡ false
+never class k Class.here e0 e2 e3 e4 e5 e6 = e0
+never class k (Class.later Class.here) e0 e2 e3 e4 e5 e6 = e2
+never class k (Class.later (Class.later Class.here)) e0 e2 e3 e4 e5 e6 = e3
+never class k (Class.later (Class.later (Class.later Class.here))) e0 e2 e3 e4 e5 e6 = e4
+never class k (Class.later (Class.later (Class.later (Class.later Class.here)))) e0 e2 e3 e4 e5 e6 = e5
+never class k (Class.later (Class.later (Class.later (Class.later (Class.later Class.here))))) e0 e2 e3 e4 e5 e6 = e6
 
-pub class-low : (burst : Burst) → classOf burst < counterCount
-class-low burst = go (classOf burst) (falls burst)
-  where
-    go : (r : ℕ) → Falls burst r → r < counterCount
-    go r (short d) = omega arith
-    go r (runt d n) = omega arith
-    go r (tooLong d n) = omega arith
-    go r (misaligned d m l f x) = omega arith
-    go r (faulty d m l f x) = omega arith
-    go r (good d m l f) = omega arith
+pub class-low : (class : ℕ) → Among class classes → class < counterCount
+class-low class Class.here = omega arith
+class-low class (Class.later Class.here) = omega arith
+class-low class (Class.later (Class.later Class.here)) = omega arith
+class-low class (Class.later (Class.later (Class.later Class.here))) = omega arith
+class-low class (Class.later (Class.later (Class.later (Class.later Class.here)))) = omega arith
+class-low class (Class.later (Class.later (Class.later (Class.later (Class.later Class.here))))) = omega arith
 
 -- the ports of a set that is asked for, or none
 has-those : (b : Bool) (m i : ℕ) → has (cond b m 0) i ≡ (b && has m i)
@@ -254,7 +249,7 @@ rotated false b true = refl
 rotated false b false = refl
 
 -- at one port that has a part in the burst: heard, cut, the single one, its address changes; a collision, a late one, a very long burst, a mistimed one
-module _ (burst : Burst) (class : ℕ) (is : class ≡ classOf burst) (heard cut single changed collision : Bool) where
+module _ (burst : Burst) (class : ℕ) (is : Among class classes) (heard cut single changed collision : Bool) where
   abbrev share : Share
   share = record { heard = heard; single = single; collision = collision && heard; class = class; cut = cut; changed = changed }
 
@@ -270,7 +265,7 @@ module _ (burst : Burst) (class : ℕ) (is : class ≡ classOf burst) (heard cut
 
   -- a register that is no class
   besides : (r : ℕ) → eqb 0 r ≡ false → eqb 2 r ≡ false → eqb 3 r ≡ false → eqb 4 r ≡ false → eqb 5 r ≡ false → eqb 6 r ≡ false → eqb class r ≡ false
-  besides r a b c d e f = rw is (never burst r a b c d e f)
+  besides r a b c d e f = never class r is a b c d e f
 
   pub shared : (r : ℕ) → r < counterCount → Sum r
   unfolding creditFor
@@ -322,7 +317,7 @@ module _ (due : Due) (burst : Burst) (own framed crowd late long mistimed change
   mistimed-at : has mistimed i ≡ ((burst .«rate_error» && ltb mismatchAbove (burst .d)) && has own i)
   mistimed-at = rw (m .mistimed-is) (has-those (burst .«rate_error» && ltb mismatchAbove (burst .d)) own i)
 
-  pub tallied : due .class ≡ classOf burst → (r : ℕ) → r < counterCount
+  pub tallied : Among (due .class) classes → (r : ℕ) → r < counterCount
       → eight (has own i) (has framed i) (has crowd i) (has late i) (has long i) (has mistimed i) (has (due .cut) i) (has changed i) (due .class) (burst .n) r
       ≡ countedFor due burst r i
   unfolding countedFor creditOf shareOf
@@ -431,13 +426,13 @@ module _ (due : Due) (burst : Burst) (source flat addresses later : List ℕ) (c
           rw (e, ← q) (ap (λ (p : Attributes). withAddress p source) (port-held later addresses k h))
       go k h false e = rw e
 
-due-class : (nine : Nine) (met : Met) (burst : Burst) (source : List ℕ) → dueOf nine met burst source .class ≡ classOf burst
+due-class : (nine : Nine) (met : Met) (burst : Burst) (source : List ℕ) → Among (dueOf nine met burst source .class) classes
 unfolding dueOf
-due-class nine met burst source = refl
+due-class nine met burst source = class-listed (met .limit) burst (classOf (met .limit) burst) (falls (met .limit) burst)
 
 module _ (met : Met) (burst : Burst) (source flat addresses : List ℕ) (due : Due) (is : due ≡ dueOf (nineOf [] addresses) met burst source) where
-  pub class-due : due .class ≡ classOf burst
-  class-due = ap (λ (d : Due). d .class) is ∙ due-class (nineOf [] addresses) met burst source
+  pub class-due : Among (due .class) classes
+  class-due = rw is (due-class (nineOf [] addresses) met burst source)
 
   pub credit-made : (later last : List ℕ) (port : ℕ) → Counting (countedFor due burst) flat later → port ≡ framedPort due
       → Readdressed port source addresses last → Credited met burst source flat addresses due later last

@@ -30,7 +30,7 @@ use Rattle.attributes.specs.declared.Share.{Share}
 use Rattle.attributes.specs.Nine.{readableFrames, readableOctets, addressChanges, counterCount, noAttributes, allAlike, allCounters, nothingCounted}
 use Rattle.attributes.specs.Nine.{portOf}
 use Rattle.attributes.specs.Nine.{counterOf, addressOf, withPort, withAddress, readdressed, Proper}
-use Rattle.attributes.specs.Credits.{shortest, longest, classOf, sameAddress, classPort, framed, changedBy, dueOf, shareOf, one, inClass}
+use Rattle.attributes.specs.Credits.{shortBelow, shortest, longest, classOf, sameAddress, classPort, framed, changedBy, dueOf, shareOf, one, inClass}
 use Rattle.attributes.specs.Credits.{creditFor, creditsOf, creditOf, frameAt, counted, creditedWith, creditedAt, creditedAll, SingleHeard}
 use Rattle.attributes.specs.Credits.{Consistent}
 use Rattle.attributes.specs.OneClass.{here}
@@ -63,7 +63,7 @@ abbrev before : Nine
 before = withPort nothingCounted 1 (record { counters = 4294967295 ∷ replicate 12 0; address = replicate 6 0 })
 
 abbrev alone : Met
-alone = record { heard = 2; single = 1; collision = false; cut = 0 }
+alone = record { heard = 2; single = 1; collision = false; cut = 0; limit = shortBelow }
 
 abbrev after : Nine
 after = creditedAll (dueOf before alone frame sender) frame sender before
@@ -289,7 +289,7 @@ module _ (nine : Nine) (met : Met) (b : Burst) (source : List ℕ) where
       → (shortest * creditOf (dueOf nine met b source) b i readableFrames ≤ creditOf (dueOf nine met b source) b i readableOctets)
       × (creditOf (dueOf nine met b source) b i readableOctets ≤ longest * creditOf (dueOf nine met b source) b i readableFrames)
   unfolding creditOf shareOf dueOf
-  octets-sized i = octets-fit (shareOf due i) b refl
+  octets-sized i = octets-fit (met .limit) (shareOf due i) b refl
 
   -- the set of the port whose address changes, by place
   module _ (p k i : ℕ) where
@@ -326,7 +326,7 @@ module _ (nine : Nine) (met : Met) (b : Burst) (source : List ℕ) where
   pub changed-exactly : (i : ℕ) → i < portCount
       → has (dueOf nine met b source .changed) i ≡ (frameAt (dueOf nine met b source) i && not (sameAddress source (addressOf nine i)))
   unfolding dueOf frameAt shareOf
-  changed-exactly i l = changed-at (classPort met) (classOf b) i l
+  changed-exactly i l = changed-at (classPort met) (classOf (met .limit) b) i l
 
   class-heard : SingleHeard met → classPort met < portCount → has (met .heard) (classPort met) ≡ true
   unfolding classPort
@@ -340,14 +340,14 @@ module _ (nine : Nine) (met : Met) (b : Burst) (source : List ℕ) where
   unfolding dueOf
   due-consistent h = record {
     single-heard = class-heard h;
-    changed-single = λ i c. changed-there (classPort met) (classOf b) i c .0;
+    changed-single = λ i c. changed-there (classPort met) (classOf (met .limit) b) i c .0;
   }
 
   -- and at a heard port
   pub changed-heard : SingleHeard met → (i : ℕ) → has (dueOf nine met b source .changed) i ≡ true → has (met .heard) i ≡ true
   unfolding dueOf
   changed-heard h i c =
-      let t = changed-there (classPort met) (classOf b) i c in
+      let t = changed-there (classPort met) (classOf (met .limit) b) i c in
       rw (t .0) (class-heard h (t .1))
 
   -- the nine ports' octets are those of Total Octets
@@ -359,7 +359,7 @@ module _ (nine : Nine) (met : Met) (b : Burst) (source : List ℕ) where
       p = classPort met
 
       u : Bool
-      u = eqb (classOf b) readableFrames
+      u = eqb (classOf (met .limit) b) readableFrames
 
       go : (t : Bool) → ltb p portCount ≡ t → sumOver portCount (λ i. cond (eqb i p && u) (b .n) 0) ≡ cond (t && u) (b .n) 0
       go true e =

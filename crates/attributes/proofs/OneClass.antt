@@ -43,10 +43,10 @@ frame = burst 600 64 false 0
 
 -- the shares in it of a port heard alone, and of one heard with others
 abbrev alone : Share
-alone = record { heard = true; single = true; collision = false; class = classOf frame; cut = false; changed = false }
+alone = record { heard = true; single = true; collision = false; class = classOf shortBelow frame; cut = false; changed = false }
 
 abbrev jammed : Share
-jammed = record { heard = true; single = false; collision = true; class = classOf frame; cut = false; changed = false }
+jammed = record { heard = true; single = false; collision = true; class = classOf shortBelow frame; cut = false; changed = false }
 
 abbrev withClass : Share → ℕ → Share
 withClass share class = record {
@@ -59,61 +59,61 @@ withClass share class = record {
 }
 
 -- Every burst falls in one class, and in no other.
-of-each-class : (classOf (burst 77 9 false 0) ≡ shortEvents)
-    × (classOf (burst 78 9 false 0) ≡ runts)
-    × (classOf (burst 600 63 true 3) ≡ runts)
-    × (classOf (burst 13000 1519 true 3) ≡ framesTooLong)
-    × (classOf (burst 600 64 true 3) ≡ alignmentErrors)
-    × (classOf (burst 600 64 true 0) ≡ fcsErrors)
-    × (classOf (burst 13000 1518 false 3) ≡ readableFrames)
-    × (classOf frame ≡ readableFrames)
+of-each-class : (classOf shortBelow (burst 77 9 false 0) ≡ shortEvents)
+    × (classOf shortBelow (burst 78 9 false 0) ≡ runts)
+    × (classOf shortBelow (burst 600 63 true 3) ≡ runts)
+    × (classOf shortBelow (burst 13000 1519 true 3) ≡ framesTooLong)
+    × (classOf shortBelow (burst 600 64 true 3) ≡ alignmentErrors)
+    × (classOf shortBelow (burst 600 64 true 0) ≡ fcsErrors)
+    × (classOf shortBelow (burst 13000 1518 false 3) ≡ readableFrames)
+    × (classOf shortBelow frame ≡ readableFrames)
 unfolding classOf
 of-each-class = (refl, refl, refl, refl, refl, refl, refl, refl)
 
-pub falls : (b : Burst) → Falls b (classOf b)
+pub falls : (limit : ℕ) (b : Burst) → Falls limit b (classOf limit b)
 unfolding classOf
-falls b = goShort (ltb (b .d) shortBelow) refl
+falls limit b = goShort (ltb (b .d) limit) refl
   where
-    goFcs : shortBelow ≤ b .d → shortest ≤ b .n → b .n ≤ longest → b .«fcs_bad» ≡ true → (t : Bool) → ltb 0 (b .k) ≡ t
-        → Falls b (cond t alignmentErrors fcsErrors)
+    goFcs : limit ≤ b .d → shortest ≤ b .n → b .n ≤ longest → b .«fcs_bad» ≡ true → (t : Bool) → ltb 0 (b .k) ≡ t
+        → Falls limit b (cond t alignmentErrors fcsErrors)
     goFcs d m l f true e = misaligned d m l f (ltb-true 0 (b .k) e)
     goFcs d m l f false e = let h = ltb-false 0 (b .k) e in faulty d m l f (omega arith)
 
-    goGood : shortBelow ≤ b .d → shortest ≤ b .n → b .n ≤ longest → (t : Bool) → b .«fcs_bad» ≡ t
-        → Falls b (cond t (cond (ltb 0 (b .k)) alignmentErrors fcsErrors) readableFrames)
+    goGood : limit ≤ b .d → shortest ≤ b .n → b .n ≤ longest → (t : Bool) → b .«fcs_bad» ≡ t
+        → Falls limit b (cond t (cond (ltb 0 (b .k)) alignmentErrors fcsErrors) readableFrames)
     goGood d m l true e = goFcs d m l e (ltb 0 (b .k)) refl
     goGood d m l false e = good d m l e
 
-    goLong : shortBelow ≤ b .d → shortest ≤ b .n → (t : Bool) → ltb longest (b .n) ≡ t
-        → Falls b (cond t framesTooLong (cond (b .«fcs_bad») (cond (ltb 0 (b .k)) alignmentErrors fcsErrors) readableFrames))
+    goLong : limit ≤ b .d → shortest ≤ b .n → (t : Bool) → ltb longest (b .n) ≡ t
+        → Falls limit b (cond t framesTooLong (cond (b .«fcs_bad») (cond (ltb 0 (b .k)) alignmentErrors fcsErrors) readableFrames))
     goLong d m true e = tooLong d (ltb-true longest (b .n) e)
     goLong d m false e = goGood d m (ltb-false longest (b .n) e) (b .«fcs_bad») refl
 
-    goRunt : shortBelow ≤ b .d → (t : Bool) → ltb (b .n) shortest ≡ t
-        → Falls b
+    goRunt : limit ≤ b .d → (t : Bool) → ltb (b .n) shortest ≡ t
+        → Falls limit b
         (cond t runts (cond (ltb longest (b .n)) framesTooLong (cond (b .«fcs_bad») (cond (ltb 0 (b .k)) alignmentErrors fcsErrors) readableFrames)))
     goRunt d true e = runt d (ltb-true (b .n) shortest e)
     goRunt d false e = goLong d (ltb-false (b .n) shortest e) (ltb longest (b .n)) refl
 
-    goShort : (t : Bool) → ltb (b .d) shortBelow ≡ t
-        → Falls b
+    goShort : (t : Bool) → ltb (b .d) limit ≡ t
+        → Falls limit b
         (cond t shortEvents
         (cond (ltb (b .n) shortest) runts
         (cond (ltb longest (b .n)) framesTooLong (cond (b .«fcs_bad») (cond (ltb 0 (b .k)) alignmentErrors fcsErrors) readableFrames))))
-    goShort true e = short (ltb-true (b .d) shortBelow e)
-    goShort false e = goRunt (ltb-false (b .d) shortBelow e) (ltb (b .n) shortest) refl
+    goShort true e = short (ltb-true (b .d) limit e)
+    goShort false e = goRunt (ltb-false (b .d) limit e) (ltb (b .n) shortest) refl
 
-pub falls-once : (b : Burst) (r : ℕ) → Falls b r → classOf b ≡ r
+pub falls-once : (limit : ℕ) (b : Burst) (r : ℕ) → Falls limit b r → classOf limit b ≡ r
 unfolding classOf
-falls-once b r (short d) = rw (lt-ltb (b .d) shortBelow d)
-falls-once b r (runt d n) = rw (le-ltb (b .d) shortBelow d, lt-ltb (b .n) shortest n)
-falls-once b r (tooLong d n) =
+falls-once limit b r (short d) = rw (lt-ltb (b .d) limit d)
+falls-once limit b r (runt d n) = rw (le-ltb (b .d) limit d, lt-ltb (b .n) shortest n)
+falls-once limit b r (tooLong d n) =
     let m : shortest ≤ b .n = omega arith in
-    rw (le-ltb (b .d) shortBelow d, le-ltb (b .n) shortest m, lt-ltb longest (b .n) n)
-falls-once b r (misaligned d m l f k) =
-    rw (le-ltb (b .d) shortBelow d, le-ltb (b .n) shortest m, le-ltb longest (b .n) l, f, lt-ltb 0 (b .k) k)
-falls-once b r (faulty d m l f k) = rw (le-ltb (b .d) shortBelow d, le-ltb (b .n) shortest m, le-ltb longest (b .n) l, f, k)
-falls-once b r (good d m l f) = rw (le-ltb (b .d) shortBelow d, le-ltb (b .n) shortest m, le-ltb longest (b .n) l, f)
+    rw (le-ltb (b .d) limit d, le-ltb (b .n) shortest m, lt-ltb longest (b .n) n)
+falls-once limit b r (misaligned d m l f k) =
+    rw (le-ltb (b .d) limit d, le-ltb (b .n) shortest m, le-ltb longest (b .n) l, f, lt-ltb 0 (b .k) k)
+falls-once limit b r (faulty d m l f k) = rw (le-ltb (b .d) limit d, le-ltb (b .n) shortest m, le-ltb longest (b .n) l, f, k)
+falls-once limit b r (good d m l f) = rw (le-ltb (b .d) limit d, le-ltb (b .n) shortest m, le-ltb longest (b .n) l, f)
 
 -- The six together, of a frame, of a misaligned one and of a frame that collides.
 the-six : (creditsIn (creditFor alone frame) classes ≡ 1)
@@ -122,13 +122,13 @@ the-six : (creditsIn (creditFor alone frame) classes ≡ 1)
 unfolding creditsIn creditFor classOf
 the-six = (refl, refl, refl)
 
-class-listed : (b : Burst) (r : ℕ) → Falls b r → Among r classes
-class-listed b r (short d) = later (later (later (later here)))
-class-listed b r (runt d n) = later (later (later (later (later here))))
-class-listed b r (tooLong d n) = later (later (later here))
-class-listed b r (misaligned d m l f k) = later (later here)
-class-listed b r (faulty d m l f k) = later here
-class-listed b r (good d m l f) = here
+pub class-listed : (limit : ℕ) (b : Burst) (r : ℕ) → Falls limit b r → Among r classes
+class-listed limit b r (short d) = later (later (later (later here)))
+class-listed limit b r (runt d n) = later (later (later (later (later here))))
+class-listed limit b r (tooLong d n) = later (later (later here))
+class-listed limit b r (misaligned d m l f k) = later (later here)
+class-listed limit b r (faulty d m l f k) = later here
+class-listed limit b r (good d m l f) = here
 
 -- the credit of each class
 class-credit : (s : Share) (b : Burst) (r : ℕ) → Among r classes → creditFor s b r ≡ one (inClass s r)
@@ -145,11 +145,11 @@ a-frame-credited : (alone .single ≡ true) × (creditsOf alone frame ≡ 1 ∷ 
 unfolding creditsOf creditFor classOf each
 a-frame-credited = (refl, refl)
 
-one-class : (s : Share) (b : Burst) (r : ℕ) → s .class ≡ classOf b → s .single ≡ true → Falls b r → OnlyClass (creditFor s b) r
-one-class s b r k e f = record {
-  listed = class-listed b r f;
-  is = class-credit s b r (class-listed b r f) ∙ rw (e, eq-eqb (s .class) r (k ∙ falls-once b r f));
-  alone = λ q l n. class-credit s b q l ∙ rw (e, ne-eqb (s .class) q (λ h. n (sym h ∙ k ∙ falls-once b r f)));
+one-class : (limit : ℕ) (s : Share) (b : Burst) (r : ℕ) → s .class ≡ classOf limit b → s .single ≡ true → Falls limit b r → OnlyClass (creditFor s b) r
+one-class limit s b r k e f = record {
+  listed = class-listed limit b r f;
+  is = class-credit s b r (class-listed limit b r f) ∙ rw (e, eq-eqb (s .class) r (k ∙ falls-once limit b r f));
+  alone = λ q l n. class-credit s b q l ∙ rw (e, ne-eqb (s .class) q (λ h. n (sym h ∙ k ∙ falls-once limit b r f)));
 }
 
 -- A port that is not single gets none of them.
@@ -161,22 +161,22 @@ no-class : (s : Share) (b : Burst) (r : ℕ) → s .single ≡ false → Among r
 no-class s b r e l = class-credit s b r l ∙ rw e
 
 -- the credits of the classes where the class is r
-sum-of : (t : Bool) (b : Burst) (r : ℕ) → Falls b r
+sum-of : (limit : ℕ) (t : Bool) (b : Burst) (r : ℕ) → Falls limit b r
     → one (t && eqb r readableFrames)
     + (one (t && eqb r fcsErrors)
     + (one (t && eqb r alignmentErrors) + (one (t && eqb r framesTooLong) + (one (t && eqb r shortEvents) + (one (t && eqb r runts) + 0)))))
     ≡ one t
-sum-of false b r f = refl
-sum-of true b r (short d) = refl
-sum-of true b r (runt d n) = refl
-sum-of true b r (tooLong d n) = refl
-sum-of true b r (misaligned d m l f k) = refl
-sum-of true b r (faulty d m l f k) = refl
-sum-of true b r (good d m l f) = refl
+sum-of limit false b r f = refl
+sum-of limit true b r (short d) = refl
+sum-of limit true b r (runt d n) = refl
+sum-of limit true b r (tooLong d n) = refl
+sum-of limit true b r (misaligned d m l f k) = refl
+sum-of limit true b r (faulty d m l f k) = refl
+sum-of limit true b r (good d m l f) = refl
 
-share-together : (s : Share) (b : Burst) → s .class ≡ classOf b → creditsIn (creditFor s b) classes ≡ one (s .single)
+share-together : (limit : ℕ) (s : Share) (b : Burst) → s .class ≡ classOf limit b → creditsIn (creditFor s b) classes ≡ one (s .single)
 unfolding creditsIn creditFor
-share-together s b k = rw k (sum-of (s .single) b (classOf b) (falls b))
+share-together limit s b k = rw k (sum-of limit (s .single) b (classOf limit b) (falls limit b))
 
 pub at-most-one : (s : Share) (b : Burst) (r : ℕ) → Among r classes → creditFor s b r ≤ 1
 at-most-one s b r l = rw (class-credit s b r l) (go (inClass s r))
@@ -195,34 +195,34 @@ octets-of-frames s b = go (inClass s readableFrames)
     go false = omega arith
 
 -- A readable frame has 64 to 1518 octets.
-readable-size : (b : Burst) (r : ℕ) → Falls b r → r ≡ readableFrames → (shortest ≤ b .n) × (b .n ≤ longest)
-readable-size b r (short d) z = absurd (omega arith)
-readable-size b r (runt d n) z = absurd (omega arith)
-readable-size b r (tooLong d n) z = absurd (omega arith)
-readable-size b r (misaligned d m l f k) z = absurd (omega arith)
-readable-size b r (faulty d m l f k) z = absurd (omega arith)
-readable-size b r (good d m l f) z = (m, l)
+readable-size : (limit : ℕ) (b : Burst) (r : ℕ) → Falls limit b r → r ≡ readableFrames → (shortest ≤ b .n) × (b .n ≤ longest)
+readable-size limit b r (short d) z = absurd (omega arith)
+readable-size limit b r (runt d n) z = absurd (omega arith)
+readable-size limit b r (tooLong d n) z = absurd (omega arith)
+readable-size limit b r (misaligned d m l f k) z = absurd (omega arith)
+readable-size limit b r (faulty d m l f k) z = absurd (omega arith)
+readable-size limit b r (good d m l f) z = (m, l)
 
 -- So one burst's octets lie between 64 and 1518 for each of its readable frames.
-pub octets-fit : (s : Share) (b : Burst) → s .class ≡ classOf b
+pub octets-fit : (limit : ℕ) (s : Share) (b : Burst) → s .class ≡ classOf limit b
     → (shortest * creditFor s b readableFrames ≤ creditFor s b readableOctets) × (creditFor s b readableOctets ≤ longest * creditFor s b readableFrames)
 unfolding creditFor
-octets-fit s b k = go (s .single) (eqb (s .class) readableFrames) refl
+octets-fit limit s b k = go (s .single) (eqb (s .class) readableFrames) refl
   where
     go : (t u : Bool) → eqb (s .class) readableFrames ≡ u
         → (shortest * one (t && u) ≤ cond (t && u) (b .n) 0) × (cond (t && u) (b .n) 0 ≤ longest * one (t && u))
     go true true e =
-        let size = readable-size b (classOf b) (falls b) (sym k ∙ eqb-true (s .class) readableFrames e) in
+        let size = readable-size limit b (classOf limit b) (falls limit b) (sym k ∙ eqb-true (s .class) readableFrames e) in
         (omega arith, omega arith)
     go true false e = (omega arith, omega arith)
     go false u e = (omega arith, omega arith)
 
 -- TP0's frame heard alone, and one that AUI alone is heard with beside its collision signal
 abbrev heardAlone : Met
-heardAlone = record { heard = 1; single = 0; collision = false; cut = 0 }
+heardAlone = record { heard = 1; single = 0; collision = false; cut = 0; limit = shortBelow }
 
 abbrev auiSignalled : Met
-auiSignalled = record { heard = 256; single = 8; collision = true; cut = 0 }
+auiSignalled = record { heard = 256; single = 8; collision = true; cut = 0; limit = shortBelow }
 
 abbrev noSource : List ℕ
 noSource = 0 ∷ 0 ∷ 0 ∷ 0 ∷ 0 ∷ 0 ∷ []
@@ -236,9 +236,9 @@ on-the-ports = (refl, refl, refl)
 
 -- On the ports: the single heard port gets the class of its burst; where there is a collision, and at every other port, none is credited.
 module _ (nine : Nine) (met : Met) (b : Burst) (source : List ℕ) where
-  pub single-port : (r : ℕ) → met .collision ≡ false → Falls b r → OnlyClass (creditOf (dueOf nine met b source) b (met .single)) r
+  pub single-port : (r : ℕ) → met .collision ≡ false → Falls (met .limit) b r → OnlyClass (creditOf (dueOf nine met b source) b (met .single)) r
   unfolding creditOf shareOf dueOf classPort
-  single-port r c w = one-class (shareOf (dueOf nine met b source) (met .single)) b r refl (rw (c, eq-eqb (met .single) (met .single) refl)) w
+  single-port r c w = one-class (met .limit) (shareOf (dueOf nine met b source) (met .single)) b r refl (rw (c, eq-eqb (met .single) (met .single) refl)) w
 
   -- nobody is the port's number where none, or more than one, is heard
   pub other-port : (i r : ℕ) → i < portCount → (i ≡ met .single → ⊥) → Among r classes → creditOf (dueOf nine met b source) b i r ≡ 0
@@ -256,4 +256,4 @@ module _ (nine : Nine) (met : Met) (b : Burst) (source : List ℕ) where
   -- The six together: one at the port that the class goes to, none elsewhere.
   pub six-together : (i : ℕ) → creditsIn (creditOf (dueOf nine met b source) b i) classes ≡ one (eqb i (classPort met))
   unfolding creditsIn creditOf shareOf dueOf
-  six-together i = share-together (shareOf (dueOf nine met b source) i) b refl
+  six-together i = share-together (met .limit) (shareOf (dueOf nine met b source) i) b refl

@@ -1,5 +1,5 @@
 -- Every row of specs/Sheet.antt, by computing; and a written address. Assumes nothing.
---   classes-credited, collisions-credited, others-credited == the tables
+--   classes-credited, limits-credited, collisions-credited, others-credited == the tables
 --   written            == a written address stands there, at no other port, and no counter moves
 --   nothing-yet        == what power-up is given by the program: zeros
 use mathlib.Core.Path.{_≡_, refl}
@@ -8,7 +8,7 @@ use lib.ListN.{replicate}
 use Rattle.ports.specs.Sets.{has, gather}
 use Rattle.ports.specs.Each.{each}
 use Rattle.attributes.specs.Nine.{nothingCounted, portOf, readdressed}
-use Rattle.attributes.specs.Sheet.{home, away, homes, Row, found, classes, collided, others}
+use Rattle.attributes.specs.Sheet.{home, away, homes, Row, found, classes, limits, collided, others}
 use Rattle.attributes.proofs.Computing.{crediting}
 
 abbrev Holds : List Row → Type 0
@@ -17,6 +17,10 @@ Holds rows = map (λ (w : Row). w .wanted) rows ≡ map found rows
 pub classes-credited : Holds classes
 unfolding crediting has gather each
 classes-credited = refl
+
+pub limits-credited : Holds limits
+unfolding crediting has gather each
+limits-credited = refl
 
 pub collisions-credited : Holds collided
 unfolding crediting has gather each

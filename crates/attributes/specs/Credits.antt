@@ -1,8 +1,8 @@
--- Document 01, 'Burst', the paragraph on credits. Where RFC 1516 gives 74 to 82 bit times for a short event the paper takes under 78; for a late
--- event, of 480 to 565, over 512; for a data rate mismatch, of 552 to 565, over 552.
---   Met                 == a burst as the repeater met it: H, the single heard port or nobody, whether it is a collision for the credits, and the
---                          ports that it partitioned
---   classOf burst       == the register of the one class that a single heard port's burst without collision falls in
+-- Document 01, 'Burst', the paragraph on credits. For a short event RFC 1516 wants a limit between 74 and 82 bit times: power-up chooses one of 75 to 81, and
+-- 78 is the usual one. For a late event, of 480 to 565, the paper takes over 512; for a data rate mismatch, of 552 to 565, over 552.
+--   Met                 == a burst as the chip met it: H, the single heard port or nobody, whether it is a collision for the credits, the ports that it
+--                          partitioned, and the short event limit
+--   classOf limit burst == the register of the one class that a single heard port's burst without collision falls in
 --   sameAddress s a     == two addresses are the same, byte by byte
 --   Due                 == what a burst is credited with, worked out once: dueOf
 --   Share               == the part that one port has in it: shareOf
@@ -30,9 +30,15 @@ use Rattle.attributes.specs.Nine.{readableFrames, readableOctets, fcsErr
 use Rattle.attributes.specs.Nine.{collisions, lateEvents, veryLongEvents, rateMismatches, autoPartitions, addressChanges, counterCount}
 use Rattle.attributes.specs.Nine.{addressOf}
 
--- in bit times: a burst of fewer is a short event
+-- in bit times: a burst of fewer than the limit is a short event; the usual limit, the lowest and the highest
 abbrev pub shortBelow : ℕ
 shortBelow = 78
+
+abbrev pub shortFrom : ℕ
+shortFrom = 75
+
+abbrev pub shortTo : ℕ
+shortTo = 81
 
 -- octets of the shortest and of the longest frame
 abbrev pub shortest : ℕ
@@ -50,9 +56,9 @@ abbrev pub mismatchAbove : ℕ
 mismatchAbove = 552
 
 -- the first of these in this order
-unfoldable pub classOf : Burst → ℕ
-classOf burst =
-    cond (ltb (burst .d) shortBelow) shortEvents
+unfoldable pub classOf : ℕ → Burst → ℕ
+classOf limit burst =
+    cond (ltb (burst .d) limit) shortEvents
     (cond (ltb (burst .n) shortest) runts
     (cond (ltb longest (burst .n)) framesTooLong
     (cond (burst .«fcs_bad») (cond (ltb 0 (burst .k)) alignmentErrors fcsErrors)
@@ -82,7 +88,7 @@ changedBy nine frame single source = cond (frame && not (sameAddress source (add
 unfoldable pub dueOf : Nine → Met → Burst → List ℕ → Due
 dueOf nine met burst source =
     let single : ℕ = classPort met in
-    let class : ℕ = classOf burst in
+    let class : ℕ = classOf (met .limit) burst in
     record {
       heard = met .heard;
       single = single;

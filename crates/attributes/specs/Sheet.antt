@@ -5,7 +5,7 @@
 --   home, away, nearby       == addresses; every port starts with the first, and the last differs from it in one byte
 --   Row, found               == a row: how it was met, the burst, its source, a port, its thirteen counters in the paper's order from 0 on, its address then;
 --                               and the octets for Total Octets and the ports with another address. found is what the definitions make of it
---   classes, collided, others == the tables: the six classes; collisions; very long, mistimed, partitioned and changed
+--   classes, limits, collided, others == the tables: the six classes; the short event limit; collisions; very long, mistimed, partitioned and changed
 -- Assumes nothing.
 use Prim.Native.Nat.{ℕ, _^_}
 use mathlib.Core.Bool.{Bool, true, false}
@@ -44,8 +44,12 @@ bad = flagged true false
 abbrev pub mistimed : ℕ → ℕ → ℕ → ℕ → Burst
 mistimed = flagged false true
 
+abbrev pub metWith : ℕ → ℕ → ℕ → Bool → ℕ → Met
+metWith limit heard single collision cut = record { heard = heard; single = single; collision = collision; cut = cut; limit = limit }
+
+-- with the usual limit
 abbrev pub met : ℕ → ℕ → Bool → ℕ → Met
-met heard single collision cut = record { heard = heard; single = single; collision = collision; cut = cut }
+met = metWith 78
 
 abbrev pub alone : ℕ → Met
 alone p = met (2 ^ p) p false 0
@@ -135,6 +139,29 @@ classes =
     ∷ counted 0 (alone 0) (burst 600 64 0 0) home 1 (ones []) home 64 0
     -- nobody heard
     ∷ row (met 0 nobody false 0) (burst 600 64 0 0) 0 (ones [])
+    ∷ []
+
+-- a burst of d bit times at TP0, met with that limit, is counted in that register
+abbrev pub limited : ℕ → ℕ → ℕ → Row
+limited limit d r = row (metWith limit 1 0 false 0) (burst d 9 0 0) 0 (ones (r ∷ []))
+
+-- the seven limits, each one bit time below it and at it
+abbrev pub limits : List Row
+limits =
+    limited 75 74 5
+    ∷ limited 75 75 6
+    ∷ limited 76 75 5
+    ∷ limited 76 76 6
+    ∷ limited 77 76 5
+    ∷ limited 77 77 6
+    ∷ limited 78 77 5
+    ∷ limited 78 78 6
+    ∷ limited 79 78 5
+    ∷ limited 79 79 6
+    ∷ limited 80 79 5
+    ∷ limited 80 80 6
+    ∷ limited 81 80 5
+    ∷ limited 81 81 6
     ∷ []
 
 -- Collisions in R 7, and Late Events in 8 where c is above 512, for every heard port and for no other; no class beside them

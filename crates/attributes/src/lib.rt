@@ -8,6 +8,7 @@ ghost use lib.Dec.{eqb};
 ghost use Rattle.ports.specs.Sets.{portCount, has};
 ghost use Rattle.attributes.specs.Nine.{counterCount, nothingCounted, counterOf, addressOf, withPort};
 ghost use Rattle.attributes.specs.Credits.{classOf, sameAddress, classPort, changedBy, dueOf};
+ghost use Rattle.attributes.specs.OneClass.{Among, classes};
 ghost use Rattle.attributes.specs.Flat.{place, nineOf, nineIn, stretchOf, Counting, Readdressed, Credited};
 ghost use Rattle.attributes.specs.Counts.{countedFor, framedPort, Written, Laid};
 use burst::Activity;
@@ -32,13 +33,14 @@ pub struct Flat {
     pub addresses: [u8; Flat::ADDRESSES],
 }
 
-// A burst as the repeater met it: the heard ports, the single one of them or NONE, whether it is a collision for the credits, and the ports that
-// it partitioned.
+// A burst as the chip met it: the heard ports, the single one of them or NONE, whether it is a collision for the credits, the ports that it
+// partitioned, and the short event limit.
 pub struct Met {
     pub heard: u16,
     pub single: usize,
     pub collision: bool,
     pub cut: u16,
+    pub limit: u32,
 }
 
 // What a burst is credited with, worked out once. Single is the port that the class goes to, or NONE; in changed are the ports whose address
@@ -93,8 +95,12 @@ impl Attributes {
 
     pub const COUNT: usize = 13;
 
-    // A burst of fewer bit times is a short event.
+    // A burst of fewer bit times than the limit is a short event: the usual limit, the lowest and the highest.
     pub const SHORT_BELOW: u32 = 78;
+
+    pub const SHORT_FROM: u32 = 75;
+
+    pub const SHORT_TO: u32 = 81;
 
     // Octets of the shortest and of the longest frame.
     pub const SHORTEST: u32 = 64;
@@ -109,10 +115,10 @@ impl Attributes {
 }
 
 // The register of the class that a single heard port's burst without collision falls in.
-fn class_of(burst: Burst) -> usize
-    ensures { λ r. ⌜ r ≡ classOf burst ⌝ }
+fn class_of(limit: u32, burst: Burst) -> usize
+    ensures { λ r. ⌜ r ≡ classOf limit burst ⌝ }
 {
-    if burst.d < Attributes::SHORT_BELOW {
+    if burst.d < limit {
         return Attributes::SHORT_EVENTS;
     }
     if burst.n < Attributes::SHORTEST {
@@ -277,7 +283,7 @@ fn due_of(addresses: &[u8; Flat::ADDRESSES], met: Met, burst: Burst, source: [u8
     ensures { λ r. ⌜ r ≡ dueOf (nineOf [] (now (addresses .entry))) met burst source ⌝ }
 {
     let single = met.class_port();
-    let class = class_of(burst);
+    let class = class_of(met.limit, burst);
     let frame = (single < ports::COUNT) & (class == Attributes::READABLE_FRAMES);
     let changed = changed(addresses, frame, single, source);
     let octets = amount(frame, burst.n);
@@ -294,7 +300,7 @@ fn due_of(addresses: &[u8; Flat::ADDRESSES], met: Met, burst: Burst, source: [u8
 
 // The counters with what is due. A port that is neither heard nor cut has no part in it.
 fn count(counters: &mut [u32; Flat::COUNTERS], due: Due, burst: Burst)
-    requires { ⌜ due .class ≡ classOf burst ⌝ }
+    requires { ⌜ Among (due .class) classes ⌝ }
     ensures { λ _. ⌜ Counting (countedFor due burst) (now (counters .entry)) (now (counters .exit)) ⌝ }
 {
     let touched = due.heard | due.cut;

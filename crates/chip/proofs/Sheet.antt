@@ -1,18 +1,19 @@
 -- The core at power-up and after a reset, what a moved repeater notes, and the two counters, by computing. Assumes nothing.
---   core-up, chip-up, core-reset == everything zero but the counters, which are given at power-up and kept by a reset
+--   core-up, chip-up, core-reset == everything zero but the counters and the limit, which are given at power-up and kept by a reset
+--   limits-hold         == seven limits stand, and any other is turned away with 13
 --   changes-noted       == links that pass and fail, partitions and reconnections, each event, and bits that stay
 --   rest-kept           == a move leaves enables, counters, interface error and G
 --   totals              == Transmit Collisions by one, Total Octets by the octets, each by itself, and round at 2^32
 use mathlib.Core.Path.{_≡_, refl}
 use mathlib.Core.Bool.{true, false}
-use mathlib.Core.List.{[], _∷_}
+use mathlib.Core.List.{[], _∷_, map}
 use Rattle.ports.specs.Sets.{has}
 use Rattle.repeater.specs.Reset.{powerUp}
 use Rattle.repeater.proofs.Computing.{repeating}
 use Rattle.changes.specs.Changes.{eventsOf, noted}
 use Rattle.attributes.specs.Nine.{nothingCounted, allCounters}
-use Rattle.chip.specs.Chip.{coreUp, chipUp, coreReset, withRepeater, moved, totalled}
-use Rattle.chip.specs.Sheet.{kept, up, linked, collidedAui, used, changing, at}
+use Rattle.chip.specs.Chip.{refusalOf, settledOf, coreUp, chipUp, coreReset, withRepeater, moved, totalled}
+use Rattle.chip.specs.Sheet.{kept, limits, given, up, linked, collidedAui, used, changing, at}
 
 pub core-up : coreUp (kept 7 9)
     ≡ record {
@@ -27,7 +28,12 @@ core-up = refl
 
 pub chip-up : (chipUp (record { attributes = nothingCounted; kept = kept 7 9 }) .core ≡ coreUp (kept 7 9))
     × (chipUp (record { attributes = allCounters 5; kept = kept 7 9 }) .attributes ≡ allCounters 5)
+unfolding settledOf
 chip-up = (refl, refl)
+
+pub limits-hold : limits ≡ map given limits
+unfolding refusalOf settledOf
+limits-hold = refl
 
 pub core-reset : coreReset used
     ≡ record {

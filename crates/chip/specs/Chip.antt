@@ -1,29 +1,58 @@
 -- Document 01, 'Reset and power-up', and the state of the two chips: the core (repeater, change bits, enables, what a reset keeps, interface error, G) and
 -- the nine ports' attributes. Builders say 'this part anew, the rest as it was'.
---   coreUp k, chipUp given == at power-up, with what it is given
+--   refusalOf choices == 0, or the number that power-up turns these choices away with
+--   settledOf choices == what the chip goes by: what was chosen, or next to a refusal what is usual
+--   coreUp k, chipUp given == at power-up, with what it is given; poweredUp given == with the number beside it
 --   coreReset c       == after a reset: what it keeps, and everything else as at power-up
 --   moved c r ..      == the core with the repeater at r: what changed of partition and link, and the events given, is noted
 --   totalled c ..     == the core with what a burst adds to the two counters that it keeps
 -- Assumes nothing.
 use Prim.Native.Nat.{ℕ, _+_, _%_, _^_}
-use mathlib.Core.Bool.{Bool, false, cond}
+use mathlib.Core.Bool.{Bool, false, cond, _&&_}
 use mathlib.Core.List.{List}
+use lib.Dec.{leb}
 use lib.ListN.{replicate}
 use lib.Bits.{bitXor}
 use Rattle.repeater.specs.declared.Repeater.{Repeater}
 use Rattle.repeater.specs.Reset.{powerUp}
 use Rattle.repeater.specs.Repeater.{partitionedOf, linkedOf}
+use Rattle.attributes.specs.Credits.{shortBelow, shortFrom, shortTo}
 use Rattle.changes.specs.Changes.{eventsOf, noted}
+use Rattle.chip.specs.declared.Choices.{Choices}
 use Rattle.chip.specs.declared.Kept.{Kept}
 use Rattle.chip.specs.declared.Core.{Core}
 use Rattle.chip.specs.declared.Supply.{Supply}
 use Rattle.chip.specs.declared.Chip.{Chip}
+use Rattle.chip.specs.declared.Powered.{Powered}
+
+abbrev pub usual : Choices
+usual = record { «short_limit» = shortBelow }
+
+-- a limit of short events that is none of the seven
+abbrev pub limitRefused : ℕ
+limitRefused = 13
+
+abbrev pub fits : Choices → Bool
+fits choices = leb shortFrom (choices .«short_limit») && leb (choices .«short_limit») shortTo
+
+unfoldable pub refusalOf : Choices → ℕ
+refusalOf choices = cond (fits choices) 0 limitRefused
+
+unfoldable pub settledOf : Choices → Choices
+settledOf choices = cond (fits choices) choices usual
+
+abbrev pub withChoices : Kept → Choices → Kept
+withChoices kept choices =
+    record { «transmit_collisions» = kept .«transmit_collisions»; «total_octets» = kept .«total_octets»; choices = choices }
 
 abbrev pub coreUp : Kept → Core
 coreUp kept = record { repeater = powerUp; changes = replicate 8 0; enables = replicate 8 0; kept = kept; «interface_error» = false; g = 0 }
 
 abbrev pub chipUp : Supply → Chip
-chipUp given = record { core = coreUp (given .kept); attributes = given .attributes }
+chipUp given = record { core = coreUp (withChoices (given .kept) (settledOf (given .kept .choices))); attributes = given .attributes }
+
+abbrev pub poweredUp : Supply → Powered
+poweredUp given = record { number = refusalOf (given .kept .choices); chip = chipUp given }
 
 abbrev pub coreReset : Core → Core
 coreReset c = coreUp (c .kept)
@@ -70,4 +99,8 @@ added counter credit = (counter + credit) % 2 ^ 32
 abbrev pub totalled : Core → Bool → ℕ → Core
 totalled c transmitCollision octets =
     withKept c
-    (record { «transmit_collisions» = added (c .kept .«transmit_collisions») (one transmitCollision); «total_octets» = added (c .kept .«total_octets») octets })
+    (record {
+      «transmit_collisions» = added (c .kept .«transmit_collisions») (one transmitCollision);
+      «total_octets» = added (c .kept .«total_octets») octets;
+      choices = c .kept .choices;
+    })

@@ -3,17 +3,24 @@
 ghost use mathlib.Core.Path.{_≡_};
 ghost use mathlib.Core.Bool.{false};
 ghost use Rattle.repeater.specs.Repeater.{quieted};
-ghost use Rattle.chip.specs.Chip.{coreUp, chipUp, coreReset, movedBy, moved, one, totalled};
-ghost use Rattle.chip.specs.Flat.{supplyOf, chipOf};
+ghost use Rattle.chip.specs.Chip.{usual, fits, refusalOf, settledOf, withChoices, coreUp, poweredUp, coreReset, movedBy, moved, one, totalled};
+ghost use Rattle.chip.specs.Flat.{supplyOf, poweredBy};
+use attributes::Attributes;
 use attributes::Flat;
 use attributes::Nine;
 use ports::Quiet;
 use repeater::Repeater;
 
-// What a reset keeps of the core: the chip's own two counters.
+// What is chosen at power-up, for good: below how many bit times a burst is a short event.
+pub struct Choices {
+    pub short_limit: u32,
+}
+
+// What a reset keeps of the core: the chip's own two counters, and what was chosen.
 pub struct Kept {
     pub transmit_collisions: u32,
     pub total_octets: u32,
+    pub choices: Choices,
 }
 
 pub struct Core {
@@ -36,7 +43,13 @@ pub struct Chip {
     pub attributes: Nine,
 }
 
-// The same two, the attributes as they are kept.
+// What power-up gives: 0 and the chip, or the number that it was turned away with, and beside it a chip with the usual choices that nobody runs.
+pub struct Powered {
+    pub number: u8,
+    pub chip: Chip,
+}
+
+// The same three, the attributes as they are kept.
 pub struct FlatSupply {
     pub flat: Flat,
     pub kept: Kept,
@@ -47,11 +60,56 @@ pub struct FlatChip {
     pub flat: Flat,
 }
 
+pub struct FlatPowered {
+    pub number: u8,
+    pub chip: FlatChip,
+}
+
 // One more, or none.
 fn once(happened: bool) -> u32
     ensures { λ r. ⌜ r ≡ one happened ⌝ }
 {
     if happened { 1 } else { 0 }
+}
+
+impl Choices {
+    // The number of a limit that is none of the seven.
+    pub const LIMIT_REFUSED: u8 = 13;
+
+    // What is chosen where nothing is said.
+    pub fn usual() -> Choices
+        ensures { λ r. ⌜ r ≡ usual ⌝ }
+    {
+        Choices {
+            short_limit: Attributes::SHORT_BELOW,
+        }
+    }
+
+    fn fits(self) -> bool
+        ensures { λ r. ⌜ r ≡ fits self ⌝ }
+    {
+        (Attributes::SHORT_FROM <= self.short_limit) & (self.short_limit <= Attributes::SHORT_TO)
+    }
+
+    // 0, or the number that power-up turns it away with.
+    pub fn refusal(self) -> u8
+        ensures { λ r. ⌜ r ≡ refusalOf self ⌝ }
+    {
+        if self.fits() {
+            return 0;
+        }
+        Choices::LIMIT_REFUSED
+    }
+
+    // What the chip goes by: this, or what is usual where it is turned away.
+    fn settled(self) -> Choices
+        ensures { λ r. ⌜ r ≡ settledOf self ⌝ }
+    {
+        if self.fits() {
+            return self;
+        }
+        Choices::usual()
+    }
 }
 
 impl Core {
@@ -123,12 +181,14 @@ impl Core {
         ensures { λ r. ⌜ r ≡ totalled self «transmit_collision» octets ⌝ }
     {
         let kept = self.kept;
+        let choices = kept.choices;
         let sum = Kept {
             transmit_collisions: std::num::wrapping_add_u32(
                 kept.transmit_collisions,
                 once(transmit_collision),
             ),
             total_octets: std::num::wrapping_add_u32(kept.total_octets, octets),
+            choices: choices,
         };
         self.kept = sum;
         self
@@ -137,14 +197,21 @@ impl Core {
 
 impl FlatChip {
     // At power-up.
-    pub fn power_up(supply: FlatSupply) -> FlatChip
-        ensures { λ r. ⌜ chipOf r ≡ chipUp (supplyOf supply) ⌝ }
+    pub fn power_up(supply: FlatSupply) -> FlatPowered
+        ensures { λ r. ⌜ poweredBy r ≡ poweredUp (supplyOf supply) ⌝ }
     {
-        let core = Core::power_up(supply.kept);
+        let mut kept = supply.kept;
+        let choices = kept.choices;
+        let number = choices.refusal();
+        kept.choices = choices.settled();
+        let core = Core::power_up(kept);
         let flat = supply.flat;
-        FlatChip {
-            core: core,
-            flat: flat,
+        FlatPowered {
+            number: number,
+            chip: FlatChip {
+                core: core,
+                flat: flat,
+            },
         }
     }
 }

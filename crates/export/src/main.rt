@@ -168,7 +168,14 @@ fn run_from(chip: FlatChip, asked: Asked) {
     say_lines(counters, asked);
 }
 
-// Runs with the counters and addresses of the start file that the second argument names.
+// A limit that power-up turns away.
+fn tell_limit(limit: u32) {
+    io::write_all(STDERR_FILENO, b"export: short event limit ");
+    io::print_decimal(STDERR_FILENO, wide(limit));
+    io::write_all(STDERR_FILENO, b" is outside 75 to 81 (refused 13)\n");
+}
+
+// Runs with the counters, addresses and choices of the start file that the second argument names.
 fn run_with(asked: Asked) {
     let mut path = io::buffer();
     let n = os::arg(2, &mut path);
@@ -181,12 +188,16 @@ fn run_with(asked: Asked) {
     let got = io::read_full(fd, &mut bytes);
     let started = start::start_chip(&bytes[..got]);
     if started.fits {
-        run_from(started.chip, asked);
+        if started.number == 0 {
+            run_from(started.chip, asked);
+            return;
+        }
+        tell_limit(started.limit);
         return;
     }
     io::write_all(
         STDERR_FILENO,
-        b"export: the start file does not have 530 bytes\n",
+        b"export: the start file does not have 530 bytes, or 535 with a 0 at the end\n",
     );
 }
 

@@ -3,12 +3,13 @@
 --   run-on, history-on == a run goes on where another ended
 --   found, foundAfter  == what f finds after the records rs, or after rs and each of some endings: f of the point reached and of the history
 --   found-once, found-after-once == the same, with the records rs met once for all that f asks
---   all-given          == one number for every counter can be given
+--   any-given, all-given == one number for every counter can be given, with any limit of short events, and with the usual one
 use Prim.Native.Nat.{ℕ, _^_, _<_}
 use mathlib.Core.Path.{_≡_, refl, sym, ap, ap₂, _∙_}
 use mathlib.Core.List.{List, [], _∷_, _++_, map}
+use Rattle.attributes.specs.Credits.{shortBelow}
 use Rattle.attributes.proofs.NineLaws.{proper-all}
-use Rattle.himib.specs.Runs.{Point, Happening, Model, historyOf, runOf, Given, allAt}
+use Rattle.himib.specs.Runs.{Point, Happening, Model, historyOf, runOf, Given, allWith, allAt}
 
 abbrev pub ends : Point → List Happening → Point
 ends p [] = p
@@ -63,5 +64,8 @@ module _ (m : Model) where
     found-after-once p rs endings e = endings-found p rs endings ∙ sym e
 
 -- any number below 2^32 can be given for every counter
+pub any-given : (limit v : ℕ) → v < 2 ^ 32 → Given (allWith limit v)
+any-given limit v l = record { attributes = proper-all v l; collisions-low = l; octets-low = l }
+
 pub all-given : (v : ℕ) → v < 2 ^ 32 → Given (allAt v)
-all-given v l = record { attributes = proper-all v l; collisions-low = l; octets-low = l }
+all-given v l = any-given shortBelow v l

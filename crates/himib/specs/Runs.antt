@@ -6,9 +6,10 @@
 --   historyOf m p rs, runOf m p rs == what happens to the records rs from p, the oldest first, by the model m, and where it leads
 --   history, run      == the chip's
 --   answersIn hs      == the answers of a history, in order
---   start given       == power-up; Given says what counters and addresses the caller can give; allAt v gives v for every counter, and zeros for the addresses
+--   start given       == power-up; Given says what counters and addresses the caller can give; allAt v gives v for every counter, zeros for the addresses, and
+--                        what is usual; allWith limit v gives another limit of short events
 --   asked, source, accepted, selects, writes, reads, resets, ifBurst == what a record asked for
---   repeaterAt, partitionedAt, linkedAt, enabledAt, counterAt, transmitCollisions, totalOctets, addressAt == what stands at a point
+--   repeaterAt, partitionedAt, linkedAt, enabledAt, counterAt, transmitCollisions, totalOctets, addressAt, limitAt == what stands at a point
 -- Assumes nothing.
 use Prim.Native.Nat.{ℕ, _^_, _<_}
 use mathlib.Core.Bool.{Bool, true, false, _&&_}
@@ -28,6 +29,7 @@ use Rattle.host.specs.Sequence.{powerUp}
 use Rattle.answer.specs.declared.Answer.{Answer}
 use Rattle.answer.specs.declared.Answer.the-variants.{Done, Sent, Value, Refused}
 use Rattle.attributes.specs.Nine.{allCounters, counterOf, addressOf, Proper}
+use Rattle.attributes.specs.Credits.{shortBelow}
 use Rattle.chip.specs.declared.Supply.{Supply}
 use Rattle.chip.specs.declared.Chip.{Chip}
 use Rattle.chip.specs.Chip.{chipUp}
@@ -87,11 +89,14 @@ pub record Given (given : Supply) : Type 0 where
   pub collisions-low : given .kept .«transmit_collisions» < 2 ^ 32
   pub octets-low : given .kept .«total_octets» < 2 ^ 32
 
-abbrev pub allAt : ℕ → Supply
-allAt v = record {
+abbrev pub allWith : ℕ → ℕ → Supply
+allWith limit v = record {
   attributes = allCounters v;
-  kept = record { «transmit_collisions» = v; «total_octets» = v };
+  kept = record { «transmit_collisions» = v; «total_octets» = v; choices = record { «short_limit» = limit } };
 }
+
+abbrev pub allAt : ℕ → Supply
+allAt v = allWith shortBelow v
 
 -- ---- Reading a history
 
@@ -150,3 +155,7 @@ totalOctets p = p .chip .core .kept .«total_octets»
 
 abbrev pub addressAt : ℕ → Point → List ℕ
 addressAt i p = addressOf (p .chip .attributes) i
+
+-- the limit of short events
+abbrev pub limitAt : Point → ℕ
+limitAt p = p .chip .core .kept .choices .«short_limit»

@@ -1,7 +1,7 @@
 -- Document 01, 'Boundary sheet', all of its starred rows, and the sample run that follows it: whole records, from power-up, and what they lead to.
 --   Led            == what a row leads to
 --   led v s l      == the chip s, whose counters started at v, shows l
---   sheet          == the table
+--   sheet          == the table; limits == its first two rows at each short event limit
 --   holding rows   == every row's records lead to what it says
 --   sample, sampleAnswers == the ten records of the sample run, and their ten answers
 -- Assumes nothing.
@@ -20,9 +20,9 @@ use Rattle.attributes.specs.declared.Nine.{Nine}
 use Rattle.attributes.specs.Nine.{readableFrames, readableOctets, fcsErrors, alignmentErrors, framesTooLong, shortEvents, runts}
 use Rattle.attributes.specs.Nine.{collisions, lateEvents, veryLongEvents, rateMismatches, autoPartitions, counterCount, counterOf}
 use Rattle.attributes.specs.Octets.{differenceOf}
-use Rattle.record.specs.Records.{noAddress, burstRecord, pulseRecord, tickRecord, cWriteRecord, dReadRecord}
+use Rattle.record.specs.Records.{noAddress, burstRecord, pulseRecord, tickRecord, cWriteRecord, dReadRecord, resetRecord}
 use Rattle.chip.specs.declared.Chip.{Chip}
-use Rattle.himib.specs.Runs.{run, start, allAt}
+use Rattle.himib.specs.Runs.{run, start, allWith}
 
 -- of a port: its counters moved by these credits, register and number, and by no other; a counter reads so much; it is connected with this count, or
 -- partitioned; its link passes, or fails
@@ -60,6 +60,7 @@ led v s (passes i) = Bool·beq (portIn s i .«link_pass») true
 led v s (fails i) = Bool·beq (portIn s i .«link_pass») false
 
 pub record Row : Type 0 where
+  pub limit : ℕ
   pub start : ℕ
   pub records : List (List ℕ)
   pub leads : List Led
@@ -69,18 +70,25 @@ allLed v s [] = true
 allLed v s (l ∷ ls) = led v s l && allLed v s ls
 
 unfoldable pub holds : Row → Bool
-holds w = allLed (w .start) (run (start (allAt (w .start))) (w .records) .chip) (w .leads)
+holds w = allLed (w .start) (run (start (allWith (w .limit) (w .start))) (w .records) .chip) (w .leads)
 
 unfoldable pub holding : List Row → Bool
 holding [] = true
 holding (w ∷ ws) = holds w && holding ws
 
 -- counters from v on, and from 0 on; the first four records bring the links of TP0 and TP1 to pass
+abbrev pub linked : List (List ℕ)
+linked = replicate 4 (pulseRecord 3)
+
 abbrev pub from : ℕ → List (List ℕ) → List Led → Row
-from v rs ls = record { start = v; records = replicate 4 (pulseRecord 3) ++ rs; leads = ls }
+from v rs ls = record { limit = 78; start = v; records = linked ++ rs; leads = ls }
 
 abbrev pub row : List (List ℕ) → List Led → Row
 row = from 0
+
+-- with another limit of short events
+abbrev pub limited : ℕ → List (List ℕ) → List Led → Row
+limited limit rs ls = record { limit = limit; start = 0; records = linked ++ rs; leads = ls }
 
 -- a burst of TP0: d, n, and with flags and k; a burst of TP0 and TP1: d, c, x
 abbrev pub burst : ℕ → ℕ → List ℕ
@@ -144,6 +152,27 @@ sheet =
     -- rate mismatch
     ∷ row (flagged mistimed 552 64 0 ∷ []) (credited 0 (frame 64) ∷ [])
     ∷ row (flagged mistimed 553 64 0 ∷ []) (credited 0 ((rateMismatches, 1) ∷ frame 64) ∷ [])
+    ∷ []
+
+-- short, and runt, at each limit; and a reset leaves the limit
+unfoldable pub limits : List Row
+limits =
+    limited 75 (burst 74 9 ∷ []) (credited 0 ((shortEvents, 1) ∷ []) ∷ [])
+    ∷ limited 75 (burst 75 9 ∷ []) (credited 0 ((runts, 1) ∷ []) ∷ [])
+    ∷ limited 76 (burst 75 9 ∷ []) (credited 0 ((shortEvents, 1) ∷ []) ∷ [])
+    ∷ limited 76 (burst 76 9 ∷ []) (credited 0 ((runts, 1) ∷ []) ∷ [])
+    ∷ limited 77 (burst 76 9 ∷ []) (credited 0 ((shortEvents, 1) ∷ []) ∷ [])
+    ∷ limited 77 (burst 77 9 ∷ []) (credited 0 ((runts, 1) ∷ []) ∷ [])
+    ∷ limited 78 (burst 77 9 ∷ []) (credited 0 ((shortEvents, 1) ∷ []) ∷ [])
+    ∷ limited 78 (burst 78 9 ∷ []) (credited 0 ((runts, 1) ∷ []) ∷ [])
+    ∷ limited 79 (burst 78 9 ∷ []) (credited 0 ((shortEvents, 1) ∷ []) ∷ [])
+    ∷ limited 79 (burst 79 9 ∷ []) (credited 0 ((runts, 1) ∷ []) ∷ [])
+    ∷ limited 80 (burst 79 9 ∷ []) (credited 0 ((shortEvents, 1) ∷ []) ∷ [])
+    ∷ limited 80 (burst 80 9 ∷ []) (credited 0 ((runts, 1) ∷ []) ∷ [])
+    ∷ limited 81 (burst 80 9 ∷ []) (credited 0 ((shortEvents, 1) ∷ []) ∷ [])
+    ∷ limited 81 (burst 81 9 ∷ []) (credited 0 ((runts, 1) ∷ []) ∷ [])
+    ∷ limited 77 (burst 77 9 ∷ resetRecord ∷ linked ++ (burst 77 9 ∷ [])) (credited 0 ((runts, 2) ∷ []) ∷ [])
+    ∷ limited 81 (burst 80 9 ∷ resetRecord ∷ linked ++ (burst 80 9 ∷ [])) (credited 0 ((shortEvents, 2) ∷ []) ∷ [])
     ∷ []
 
 abbrev pub sample : List (List ℕ)

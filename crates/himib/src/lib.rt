@@ -86,6 +86,8 @@ pub fn burst(
 ) -> Spoken
     ensures { λ r. ⌜ Bursts core b source (now (counters .entry)) (now (addresses .entry)) r (now (counters .exit)) (now (addresses .exit)) ⌝ }
 {
+    let kept = core.kept;
+    let choices = kept.choices;
     let repeater = core.repeater;
     let bursted = repeater.burst(activity(b));
     let next = bursted.repeater;
@@ -100,6 +102,7 @@ pub fn burst(
         single: effect.single,
         collision: effect.collision,
         cut: ports::less(after, before),
+        limit: choices.short_limit,
     };
     let due = attributes::credit(counters, addresses, met, b, source);
     let moved = core.move_by(next, before ^ after, marks.loopback, marks.sqe, due.changed);

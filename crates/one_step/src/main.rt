@@ -5,6 +5,7 @@
 // it takes.
 use answer::Answer;
 use attributes::Flat;
+use chip::Choices;
 use chip::FlatChip;
 use chip::FlatSupply;
 use chip::Kept;
@@ -26,16 +27,19 @@ fn say(number: u64, answer: Answer, line: &mut [u8]) {
     }
 }
 
-// At power-up, with nothing counted.
+// At power-up, with nothing counted and the usual choices.
 fn power_up() -> State {
     let flat = Flat::zero();
-    let chip = FlatChip::power_up(FlatSupply {
+    let choices = Choices::usual();
+    let powered = FlatChip::power_up(FlatSupply {
         flat: flat,
         kept: Kept {
             transmit_collisions: 0,
             total_octets: 0,
+            choices: choices,
         },
     });
+    let chip = powered.chip;
     State {
         chip: chip,
         host: Host::power_up(),

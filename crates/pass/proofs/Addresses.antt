@@ -36,7 +36,7 @@ use Rattle.himib.proofs.StepLaws.{burst-consistent, address-addressed}
 use Rattle.himib.specs.Runs.{Point, happening, start, accepted, ifBurst, addressAt, historyOf, runOf}
 use Rattle.pass.specs.Judged.{happens, history, run}
 use Rattle.pass.specs.Pass.{credit, writtenByte, isAddress, addressGiven, orElse, lastGiven, AddressesByPast}
-use Rattle.pass.proofs.Credited.{dueIn, attributes-burst, credit-burst, Fit, fit-after}
+use Rattle.pass.proofs.Credited.{dueIn, attributes-burst, credit-burst, Fit, fit-after, fit-start}
 
 -- A D WRITE
 
@@ -145,4 +145,4 @@ from-here p fit (r ∷ rs) i l =
 
 -- its instance: brink-given, five-bytes, six-bytes and then-a-frame of Instances
 pub addresses-by-past : AddressesByPast
-addresses-by-past given fit rs i l = from-here (start given) fit rs i l
+addresses-by-past given g rs i l = from-here (start given) (fit-start given g) rs i l

@@ -55,7 +55,7 @@ use Rattle.pass.specs.Examples.{up}
 use Rattle.pass.proofs.Computing.{step-computes}
 use Rattle.record.proofs.KindLaws.{quiet-is-no}
 use Rattle.pass.proofs.Accesses.{after-write, after-read}
-use Rattle.pass.proofs.Credited.{Fit, fit-after}
+use Rattle.pass.proofs.Credited.{Fit, fit-after, fit-start}
 
 -- AT ONE VALUE
 
@@ -435,7 +435,7 @@ module _ (r j : ℕ) (h : r < 8) (l : j < 8) where
       (shuffled (clears r t) (changeBit r j p) (changes r j t) (noneOf (clears r) later) (cameAfter (changes r j) (clears r) later))
 
 pub change-bits-by-past : ChangeBitsByPast
-change-bits-by-past given fit rs r j h l =
+change-bits-by-past given g rs r j h l =
     let p : Point = start given in
     let z : changeBit r j p ≡ false = rw (getD-replicate {A = ℕ} 8 r 0 0 h) (has-none j) in
-    bits-after r j h l p rs (record { eight = refl; fit = fit }) ∙ rw z
+    bits-after r j h l p rs (record { eight = refl; fit = fit-start given g }) ∙ rw z

@@ -12,7 +12,7 @@ use Rattle.himib.specs.Runs.{Point, Happening, start, historyOf, runOf}
 use Rattle.himib.proofs.Runs.{history-on}
 use Rattle.pass.specs.Judged.{happens, history, run}
 use Rattle.pass.specs.Pass.{sumOf, CountedFrom, CountersByPast}
-use Rattle.pass.proofs.Credited.{Fit, Credited, credited, fit-after}
+use Rattle.pass.proofs.Credited.{Fit, Credited, credited, fit-after, fit-start}
 
 -- no credits yet, and one record's before those of the rest
 none-yet : (n : ℕ) → n < 2 ^ 32 → n ≡ (n + 0) % 2 ^ 32
@@ -40,7 +40,7 @@ counted-from p fit (r ∷ rs) =
 
 -- its instance: brink-given, aui-counted, tp0-counted and totals-counted of Instances
 pub counters-by-past : CountersByPast
-counters-by-past given fit rs = counted-from (start given) fit rs
+counters-by-past given g rs = counted-from (start given) (fit-start given g) rs
 
 -- LISTS OF RECORDS, JOINED
 

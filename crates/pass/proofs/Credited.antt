@@ -6,9 +6,10 @@
 --   Sort p bs     == it is a burst, or it leaves them so; sort == every record is of one of the two sorts
 --   Credited p bs == the record bs, met at p, credits each counter and both totals
 --   credited      == so does every record, at every point that is fit
---   fit-after     == and the next point is fit again; fit-run, after any list of records
+--   fit-start     == power-up is fit; fit-after == and the next point is fit again; fit-run, after any list of records
+--   choices-after == what was chosen at power-up stays; so does the limit: limit-after, limit-run
 use Prim.Native.Nat.{ℕ, _+_, _%_, _^_, _<_}
-use mathlib.Core.Path.{_≡_, refl, ap}
+use mathlib.Core.Path.{_≡_, refl, ap, _∙_}
 use mathlib.Core.List.{List, [], _∷_}
 use native.Mathlib.Omega.{arith}
 use Rattle.ports.specs.Sets.{nobody}
@@ -23,7 +24,9 @@ use Rattle.attributes.specs.declared.Due.{Due}
 use Rattle.attributes.specs.Nine.{Proper}
 use Rattle.attributes.specs.Credits.{dueOf, creditOf, creditedAll}
 use Rattle.attributes.proofs.NineLaws.{counter-credited, proper-credited}
+use Rattle.chip.specs.declared.Choices.{Choices}
 use Rattle.chip.specs.declared.Kept.{Kept}
+use Rattle.chip.specs.declared.Supply.{Supply}
 use Rattle.chip.specs.Chip.{moved}
 use Rattle.access.specs.declared.Acted.{Acted}
 use Rattle.access.specs.Access.{served}
@@ -31,14 +34,19 @@ use Rattle.access.proofs.Cases.{served-kept}
 use Rattle.himib.specs.Bursts.{activityOf, metBy, burstCore, notedOn, burstOn}
 use Rattle.himib.specs.Step.{addressedAt, taken, stepOf}
 use Rattle.himib.proofs.StepLaws.{burst-consistent, counter-addressed, proper-addressed}
-use Rattle.himib.specs.Runs.{Point, happening, Given, ifBurst, repeaterAt, counterAt, transmitCollisions, totalOctets, runOf}
+use Rattle.himib.specs.Runs.{Point, happening, start, Given, ifBurst, repeaterAt, counterAt, transmitCollisions, totalOctets, limitAt, runOf}
 use Rattle.pass.specs.Judged.{happens, run}
 use Rattle.pass.specs.Pass.{credit, collisionCredit, octetCredit}
 use Rattle.pass.proofs.Boundaries
 use Rattle.pass.proofs.Instances
+use Rattle.pass.proofs.LimitAt
 
 abbrev pub Fit : Point → Type 0
 Fit p = Given (record { attributes = p .chip .attributes; kept = p .chip .core .kept })
+
+-- whatever is chosen
+pub fit-start : (given : Supply) → Given given → Fit (start given)
+fit-start given g = record { attributes = g .attributes; collisions-low = g .collisions-low; octets-low = g .octets-low }
 
 -- A BURST
 
@@ -75,6 +83,10 @@ module _ (p : Point) (bs : List ℕ) (b : Burst) (e : recordOf bs .asked ≡ ask
       rw (credit-burst i r, attributes-burst)
       (counter-credited (dueIn p b (recordOf bs .source)) b (recordOf bs .source) (p .chip .attributes) proper
       (burst-consistent (p .chip .core) b (p .chip .attributes) (recordOf bs .source)) i r l m)
+
+  choices-burst : happens p bs .after .chip .core .kept .choices ≡ p .chip .core .kept .choices
+  unfolding happening stepOf taken notedOn burstOn burstCore moved
+  choices-burst = rw e
 
   proper-burst : Proper (p .chip .attributes) → Proper (happens p bs .after .chip .attributes)
   proper-burst proper = rw attributes-burst (proper-credited (dueIn p b (recordOf bs .source)) b (recordOf bs .source) (p .chip .attributes) proper)
@@ -168,3 +180,20 @@ pub fit-run : (p : Point) (rs : List (List ℕ)) → Fit p → Fit (run p rs)
 unfolding runOf
 fit-run p [] fit = fit
 fit-run p (r ∷ rs) fit = fit-run (happens p r .after) rs (fit-after p r fit)
+
+-- WHAT WAS CHOSEN
+
+pub choices-after : (p : Point) (bs : List ℕ) → happens p bs .after .chip .core .kept .choices ≡ p .chip .core .kept .choices
+choices-after p bs = go (sort p bs)
+  where
+    go : Sort p bs → happens p bs .after .chip .core .kept .choices ≡ p .chip .core .kept .choices
+    go (burst b e) = choices-burst p bs b e
+    go (other k) = ap (λ (t : Kept). t .choices) (k .kept)
+
+pub limit-after : (p : Point) (bs : List ℕ) → limitAt (happens p bs .after) ≡ limitAt p
+limit-after p bs = ap (λ (k : Choices). k .«short_limit») (choices-after p bs)
+
+pub limit-run : (p : Point) (rs : List (List ℕ)) → limitAt (run p rs) ≡ limitAt p
+unfolding runOf
+limit-run p [] = refl
+limit-run p (r ∷ rs) = limit-run (happens p r .after) rs ∙ limit-after p r

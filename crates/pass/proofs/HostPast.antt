@@ -41,7 +41,7 @@ use Rattle.pass.specs.Judged.{happens, history, run}
 use Rattle.pass.specs.Pass.{credit, writtenByte, isAddress, completes, addressGiven, orElse}
 use Rattle.pass.specs.HostPast.{pageAfter, registerAfter, pageBy, registerBy, SelectionByPast, rowAfter, inARow, EverySixth, AddressWritesByPast}
 use Rattle.record.proofs.KindLaws.{quiet-is-no}
-use Rattle.pass.proofs.Credited.{Fit, fit-after}
+use Rattle.pass.proofs.Credited.{Fit, fit-after, fit-start}
 use Rattle.pass.proofs.Addresses.{DWrite, it-is, it-is-not, d-write, addressed}
 
 -- WHAT IS SELECTED
@@ -380,9 +380,9 @@ stands p w (r ∷ rs) s =
 
 -- its instance: brink-given, brink-six, row-at and broken-at of Instances
 pub address-writes-by-past : AddressWritesByPast
-address-writes-by-past given fit six rs r i l =
+address-writes-by-past given g six rs r i l =
     told (run up rs) r (inARow [] (history up rs)) i
-    (stands up [] rs (record { fit = fit; sixes = six; row = begun powerUp refl up-first }) .row)
+    (stands up [] rs (record { fit = fit-start given g; sixes = six; row = begun powerUp refl up-first }) .row)
   where
     up : Point
     up = start given

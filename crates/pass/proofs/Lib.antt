@@ -7,6 +7,7 @@ pub mod Partition
 pub mod Places
 pub mod ChangeBits
 pub mod Instances
+pub mod LimitAt
 pub mod Credited
 pub mod Counters
 pub mod Readings
@@ -18,3 +19,4 @@ pub mod Polling
 pub mod Frames
 pub mod Polls
 pub mod Totals
+pub mod Limit

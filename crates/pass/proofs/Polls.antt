@@ -16,9 +16,8 @@ use lib.Dec.{lit<, lit≤}
 use lib.ListN.{take, drop}
 use Rattle.ports.specs.Sets.{aui}
 use Rattle.record.specs.Records.{dReadRecord, resetRecord}
-use Rattle.repeater.specs.Reset.{powerUp}
 use Rattle.attributes.specs.Octets.{totalAfter, totalOf}
-use Rattle.himib.specs.Runs.{Point, happening, accepted, historyOf, runOf, ifBurst, repeaterAt, counterAt}
+use Rattle.himib.specs.Runs.{Point, allAt, happening, accepted, historyOf, runOf, ifBurst, counterAt}
 use Rattle.himib.proofs.Runs.{all-given}
 use Rattle.pass.specs.Judged.{history, run}
 use Rattle.pass.specs.Pass.{bytesRead, undisturbed, credit, collisionCredit, octetCredit, sumOf}
@@ -27,9 +26,9 @@ use Rattle.pass.specs.Totals.{Counter, attribute, collisions, octets, cr
 use Rattle.pass.specs.Totals.{Poll, readAt, AllRead, numbersRead, spans, again, frame}
 use Rattle.pass.proofs.Computing.{step-computes, auiFrame, selecting}
 use Rattle.pass.proofs.Instances.{last, brink, mixed}
-use Rattle.pass.proofs.Credited.{Fit, fit-run}
+use Rattle.pass.proofs.Credited.{Fit, fit-run, fit-start}
 use Rattle.pass.proofs.Counters.{counted-from, credits-on}
-use Rattle.pass.proofs.Frames.{frames-from, frames-still}
+use Rattle.pass.proofs.Frames.{Fresh, fresh-start, frames-from, frames-still}
 
 -- THREE POLLS
 
@@ -61,13 +60,16 @@ total-polled = refl
 
 -- THE PREMISE DOES NOT HOLD
 
+up-fresh : Fresh up
+up-fresh = fresh-start (allAt 0)
+
 round-of-octets : Few (attribute aui 1) up (again (2 ^ 26) frame ∷ []) → ⊥
 unfolding Few
-round-of-octets few = omega (arith, frames-from up refl (2 ^ 26) .1, few .0)
+round-of-octets few = omega (arith, frames-from up up-fresh (2 ^ 26) .1, few .0)
 
 round-of-frames : Few (attribute aui 0) up (again (2 ^ 32) frame ∷ []) → ⊥
 unfolding Few
-round-of-frames few = omega (arith, frames-from up refl (2 ^ 32) .0, few .0)
+round-of-frames few = omega (arith, frames-from up up-fresh (2 ^ 32) .0, few .0)
 
 -- THE PREMISE HOLDS
 
@@ -88,10 +90,10 @@ unfolding totalOf totalAfter
 sum-of-halves = refl
 
 up-fit : Fit up
-up-fit = all-given 0 (lit< tt)
+up-fit = fit-start (allAt 0) (all-given 0 (lit< tt))
 
 -- from a point where nothing has been counted or 2^31 frames have been
-module _ (p : Point) (fit : Fit p) (u : repeaterAt p ≡ powerUp) where
+module _ (p : Point) (fit : Fit p) (u : Fresh p) where
   half-more : counterAt aui 0 (run p half) ≡ (counterAt aui 0 p + 2147483648) % 2 ^ 32
   half-more =
       counted-from p fit half .each-counter aui 0 (lit< tt) (lit< tt)
@@ -102,11 +104,11 @@ unfolding step-computes
 none-yet = refl
 
 first-half : counterAt aui 0 (run up half) ≡ 2147483648
-first-half = half-more up up-fit refl ∙ ap (λ (n : ℕ). (n + 2147483648) % 2 ^ 32) none-yet
+first-half = half-more up up-fit up-fresh ∙ ap (λ (n : ℕ). (n + 2147483648) % 2 ^ 32) none-yet
 
 second-half : counterAt aui 0 (run (run up half) half) ≡ 0
 second-half =
-    half-more (run up half) (fit-run up half up-fit) (frames-still up refl (2 ^ 31))
+    half-more (run up half) (fit-run up half up-fit) (frames-still up up-fresh (2 ^ 31))
     ∙ ap (λ (n : ℕ). (n + 2147483648) % 2 ^ 32) first-half
 
 halves-read : readingsAt (attribute aui 0) up halves ≡ 0 ∷ 2147483648 ∷ 0 ∷ []
@@ -116,15 +118,15 @@ halves-read = rw (none-yet, first-half, second-half)
 halves-few : Few (attribute aui 0) up halves
 unfolding Few
 halves-few =
-    (rw (frames-from up refl (2 ^ 31) .0) (lit< tt), (rw (frames-from (run up half) (frames-still up refl (2 ^ 31)) (2 ^ 31) .0) (lit< tt), tt))
+    (rw (frames-from up up-fresh (2 ^ 31) .0) (lit< tt), (rw (frames-from (run up half) (frames-still up up-fresh (2 ^ 31)) (2 ^ 31) .0) (lit< tt), tt))
 
 halves-credit : sumOf (credit aui 0) (history up (joined halves)) ≡ 4294967296
 unfolding historyOf sumOf
 halves-credit =
     credits-on (credit aui 0) up half (joined (half ∷ []))
-    ∙ ap₂ (λ (m n : ℕ). m + n) (frames-from up refl (2 ^ 31) .0)
+    ∙ ap₂ (λ (m n : ℕ). m + n) (frames-from up up-fresh (2 ^ 31) .0)
     (credits-on (credit aui 0) (run up half) half []
-    ∙ ap (λ (n : ℕ). n + 0) (frames-from (run up half) (frames-still up refl (2 ^ 31)) (2 ^ 31) .0))
+    ∙ ap (λ (n : ℕ). n + 0) (frames-from (run up half) (frames-still up up-fresh (2 ^ 31)) (2 ^ 31) .0))
 
 -- THROUGH THE REGISTERS
 

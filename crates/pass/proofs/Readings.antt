@@ -17,7 +17,7 @@ use Rattle.attributes.proofs.NineLaws.{octets-summed, octets-sized}
 use Rattle.himib.specs.Runs.{Point, start, counterAt, totalOctets, historyOf}
 use Rattle.pass.specs.Judged.{happens, history, run}
 use Rattle.pass.specs.Pass.{credit, octetCredit, sumOf, Between, ReadingsByPast}
-use Rattle.pass.proofs.Credited.{metIn, credit-burst, octets-burst, Sort, burst, other, sort, Fit, fit-run}
+use Rattle.pass.proofs.Credited.{metIn, credit-burst, octets-burst, Sort, burst, other, sort, Fit, fit-run, fit-start}
 use Rattle.pass.proofs.Counters.{counted-from}
 
 -- THE OCTETS OF ONE RECORD
@@ -98,5 +98,5 @@ module _ (p : Point) (fit : Fit p) (rs : List (List ℕ)) where
 
 -- its instance: brink-given, read-at, totals-at and bound-at of Instances
 pub readings-by-past : ReadingsByPast
-readings-by-past given fit before rs =
-    between (run (start given) before) (fit-run (start given) before fit) rs
+readings-by-past given g before rs =
+    between (run (start given) before) (fit-run (start given) before (fit-start given g)) rs

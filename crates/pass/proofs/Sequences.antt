@@ -43,7 +43,7 @@ use Rattle.pass.specs.Judged.{happens, history, run}
 use Rattle.pass.specs.Pass.{bytesRead, undisturbed, registerOf, bytesOf, Sequence, SequenceIsOneValue, numberIn, FourBytes}
 use Rattle.pass.proofs.Computing.{step-computes, somebody, auiFrame, selecting, reading}
 use Rattle.record.proofs.KindLaws.{quiet-is-no}
-use Rattle.pass.proofs.Credited.{Fit, fit-run}
+use Rattle.pass.proofs.Credited.{Fit, fit-run, fit-start}
 use Rattle.pass.proofs.TurnedAway.{host-left}
 
 -- INSTANCES
@@ -310,4 +310,4 @@ module _ (p : Point) (g : Fit p) where
 
 pub four-bytes : FourBytes
 four-bytes given g before r rs e s =
-    four-bytes-at (run (start given) before) (fit-run (start given) before g) r rs e s
+    four-bytes-at (run (start given) before) (fit-run (start given) before (fit-start given g)) r rs e s

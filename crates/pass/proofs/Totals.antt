@@ -33,11 +33,11 @@ use Rattle.pass.specs.Totals.{Counter, attribute, collisions, octets, Li
 use Rattle.pass.specs.Totals.{Poll, readAt, polledTo, pageFor, registerFor, Reads, AllRead, numbersRead, spans, TotalsByHost}
 use Rattle.pass.specs.Totals.{Missed, again, frame, PremiseIsNeeded}
 use Rattle.pass.proofs.Polls
-use Rattle.pass.proofs.Credited.{Fit, fit-run}
+use Rattle.pass.proofs.Credited.{Fit, fit-run, fit-start}
 use Rattle.pass.proofs.Counters.{credits-on}
 use Rattle.pass.proofs.Readings.{between}
 use Rattle.pass.proofs.Sequences.{four-bytes-at}
-use Rattle.pass.proofs.Frames.{frames-from}
+use Rattle.pass.proofs.Frames.{fresh-start, frames-from}
 
 -- TWO READINGS
 
@@ -79,7 +79,7 @@ module _ (c : Counter) (p : Point) (pieces : List (List (List ℕ))) (readings :
 -- its instances: brink-given of Instances, frames-polled to few-polled of Polls, and its halves, whose sum 32 bits do not hold
 pub totals-by-polls : TotalsByPolls
 totals-by-polls given g before c l pieces few =
-    told c _ pieces _ (totals-from c l (run (start given) before) (fit-run (start given) before g) pieces few)
+    told c _ pieces _ (totals-from c l (run (start given) before) (fit-run (start given) before (fit-start given g)) pieces few)
 
 -- A HOST'S READINGS
 
@@ -138,7 +138,7 @@ module _ (c : Counter) (l : Listed c) where
 pub totals-by-host : TotalsByHost
 totals-by-host given g before c l t ts reads few =
     let p : Point = run (start given) before in
-    let fit : Fit p = fit-run (start given) before g in
+    let fit : Fit p = fit-run (start given) before (fit-start given g) in
     told c _ (spans t ts) _
     (ap summed (numbers-read c l p fit t ts reads)
     ∙ totals-from c l (readAt p t) (fit-run p (t .lead) fit) (spans t ts) few)
@@ -170,14 +170,14 @@ missed p fit c l rs e =
 pub premise-is-needed : PremiseIsNeeded
 premise-is-needed =
     record {
-      round = λ given g before c l rs e. missed (run (start given) before) (fit-run (start given) before g) c l rs e;
-      frames = λ given k. frames-from (start given) refl k;
+      round = λ given g before c l rs e. missed (run (start given) before) (fit-run (start given) before (fit-start given g)) c l rs e;
+      frames = λ given k. frames-from (start given) (fresh-start given) k;
       runs = λ given g.
-          let many = frames-from (start given) refl (2 ^ 32) in
-          let some = frames-from (start given) refl (2 ^ 26) in (
-            missed (start given) g (attribute aui 0) (lit< tt, lit< tt) (again (2 ^ 32) frame) (many .0),
-            missed (start given) g (attribute aui 1) (lit< tt, lit< tt) (again (2 ^ 26) frame) (some .1),
-            missed (start given) g octets tt (again (2 ^ 26) frame) (some .2),
+          let many = frames-from (start given) (fresh-start given) (2 ^ 32) in
+          let some = frames-from (start given) (fresh-start given) (2 ^ 26) in (
+            missed (start given) (fit-start given g) (attribute aui 0) (lit< tt, lit< tt) (again (2 ^ 32) frame) (many .0),
+            missed (start given) (fit-start given g) (attribute aui 1) (lit< tt, lit< tt) (again (2 ^ 26) frame) (some .1),
+            missed (start given) (fit-start given g) octets tt (again (2 ^ 26) frame) (some .2),
             some .0,
           );
     }

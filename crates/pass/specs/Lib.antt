@@ -4,3 +4,4 @@ pub mod Pass
 pub mod Examples
 pub mod HostPast
 pub mod Totals
+pub mod Limit

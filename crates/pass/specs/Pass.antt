@@ -45,7 +45,7 @@ use Rattle.access.specs.Access.{selectedBy, valueOf, numberOf}
 use Rattle.himib.specs.Bursts.{activityOf}
 use Rattle.himib.specs.Step.{stepOf}
 use Rattle.himib.specs.Runs.{Point, Happening, start, Given, asked, source, selects, writes, reads, resets, ifBurst}
-use Rattle.himib.specs.Runs.{repeaterAt, partitionedAt, linkedAt, enabledAt, counterAt, transmitCollisions, totalOctets, addressAt}
+use Rattle.himib.specs.Runs.{repeaterAt, partitionedAt, linkedAt, enabledAt, counterAt, transmitCollisions, totalOctets, addressAt, limitAt}
 use Rattle.pass.specs.Judged.{happens, history, run}
 
 -- ---- Demand 1: every record is answered, and what is turned away changes nothing
@@ -184,6 +184,7 @@ metAt h t = record {
   single = t .effect .single;
   collision = t .effect .collision;
   cut = without (partitionedOf (repeaterAt (h .after))) (partitionedOf (repeaterAt (h .before)));
+  limit = limitAt (h .before);
 }
 
 abbrev pub dueAt : Happening → Burst → Due

@@ -2,7 +2,7 @@
 use mathlib.Core.Path.{_≡_, refl}
 use mathlib.Core.List.{[], map}
 use Rattle.past.specs.Answers.{answersBy}
-use Rattle.past.specs.Sheet.{Row, told, settings, partitions, words, reports, hosts, noticing, credits, sequences}
+use Rattle.past.specs.Sheet.{Row, told, settings, partitions, words, reports, hosts, noticing, credits, limits, sequences}
 use Rattle.past.specs.Sheet.{Link, found, links, allAt, sample, sampleAnswers}
 use Rattle.past.proofs.Computing.{telling}
 
@@ -41,6 +41,10 @@ noticing-told = refl
 pub credits-told : map told credits ≡ map (λ (w : Row). w .wanted) credits
 unfolding telling
 credits-told = refl
+
+pub limits-told : map told limits ≡ map (λ (w : Row). w .wanted) limits
+unfolding telling
+limits-told = refl
 
 pub sequences-told : map told sequences ≡ map (λ (w : Row). w .wanted) sequences
 unfolding telling

@@ -3,7 +3,8 @@
 --   completes past d i     == the deed d writes port i's address, and completes six bytes with it
 --   addressBy first past i == port i's address after a past; first are the nine at power-up
 --   newcomer first past d i == a readable frame with another address than that
---   counterBy start first past i r == counter R of port i: its start and its credits
+--   creditBy limit first i r past d == what a deed credits counter R of port i with; R 5 and R 6 alone go by the limit of short events
+--   counterBy limit start first past i r == counter R of port i: its start and its credits
 -- Assumes nothing.
 use Prim.Native.Nat.{ℕ, _+_, _-_, _%_, _^_}
 use mathlib.Core.Bool.{Bool, true, false, cond, not, _&&_}
@@ -55,11 +56,11 @@ same (x ∷ xs) (y ∷ ys) = eqb x y && same xs ys
 unfoldable pub newcomer : (ℕ → List ℕ) → List Deed → Deed → ℕ → Bool
 newcomer first past d i = framesAt past d i && not (same (ifBurst [] (λ b source. source) d) (addressBy first past i))
 
-unfoldable pub creditBy : (ℕ → List ℕ) → ℕ → ℕ → List Deed → Deed → ℕ
-creditBy first i r past d =
+unfoldable pub creditBy : ℕ → (ℕ → List ℕ) → ℕ → ℕ → List Deed → Deed → ℕ
+creditBy limit first i r past d =
     cond (eqb r 11) (partitionCredit past d i)
     (cond (eqb r 12) (if (newcomer first past d i))
-    (ifBurst 0 (λ b source. creditOf b (heardBy past b) i r) d))
+    (ifBurst 0 (λ b source. creditOf limit b (heardBy past b) i r) d))
 
-unfoldable pub counterBy : (ℕ → ℕ → ℕ) → (ℕ → List ℕ) → List Deed → ℕ → ℕ → ℕ
-counterBy start first past i r = (start i r + sumBy (creditBy first i r) past) % 2 ^ 32
+unfoldable pub counterBy : ℕ → (ℕ → ℕ → ℕ) → (ℕ → List ℕ) → List Deed → ℕ → ℕ → ℕ
+counterBy limit start first past i r = (start i r + sumBy (creditBy limit first i r) past) % 2 ^ 32

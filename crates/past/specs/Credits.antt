@@ -1,7 +1,9 @@
--- Document 01, 'Burst', the paragraph on credits, with sets alone: what a deed credits each counter with, by the ports heard.
+-- Document 01, 'Burst', the paragraph on credits, and Q-6, with sets alone: what a deed credits each counter with, by the ports heard. The limit of short events
+-- is what power-up was given.
+--   short limit b, runt limit b == the two classes that the limit parts
 --   readable b        == the numbers of a readable frame
 --   alone b h i       == port i is heard alone, and without collision
---   creditOf b h i r  == what a burst credits counter R of port i with, for R 0 to R 10
+--   creditOf limit b h i r == what a burst credits counter R of port i with, for R 0 to R 10
 --   partitionCredit past d i == R 11; R 12 is in Addresses, which has all thirteen as `creditBy`
 --   framesAt past d i == it brings port i a readable frame
 --   collisionBy, octetsBy == what a deed credits Transmit Collisions and Total Octets with
@@ -17,18 +19,20 @@ use Rattle.past.specs.Deeds.{Deed, ifBurst}
 use Rattle.past.specs.Bursts.{one, more, crash}
 use Rattle.past.specs.Partition.{heardBy, partitionedBy}
 
--- the six classes, each by its own conditions
-abbrev pub short : Burst → Bool
-short b = ltb (b .d) 78
+-- the six classes, each by its own conditions. The limit stands in the first two alone. A burst with 64 octets or more lasts 512 bit times or more, so no
+-- limit can make it a short event, and the other four are told by octets, FCS and dribble bits. Of all that the past says only the counters R 5 and R 6
+-- have to do with the limit: what takes it as an argument is `creditOf`, and for these two what is made of it, up to the bytes that a host reads.
+abbrev pub short : ℕ → Burst → Bool
+short limit b = ltb (b .d) limit
 
-abbrev pub runt : Burst → Bool
-runt b = leb 78 (b .d) && ltb (b .n) 64
+abbrev pub runt : ℕ → Burst → Bool
+runt limit b = leb limit (b .d) && ltb (b .n) 64
 
 abbrev pub tooLong : Burst → Bool
-tooLong b = leb 78 (b .d) && ltb 1518 (b .n)
+tooLong b = ltb 1518 (b .n)
 
 abbrev pub framed : Burst → Bool
-framed b = leb 78 (b .d) && leb 64 (b .n) && leb (b .n) 1518
+framed b = leb 64 (b .n) && leb (b .n) 1518
 
 abbrev pub misaligned : Burst → Bool
 misaligned b = framed b && b .«fcs_bad» && ltb 0 (b .k)
@@ -46,15 +50,15 @@ abbrev pub if : Bool → ℕ
 if b = cond b 1 0
 
 -- of a burst b that was heard by h, for the registers R 0 to R 10
-unfoldable pub creditOf : Burst → ℕ → ℕ → ℕ → ℕ
-creditOf b h i r =
+unfoldable pub creditOf : ℕ → Burst → ℕ → ℕ → ℕ → ℕ
+creditOf limit b h i r =
     cond (eqb r 0) (if (alone b h i && readable b))
     (cond (eqb r 1) (cond (alone b h i && readable b) (b .n) 0)
     (cond (eqb r 2) (if (alone b h i && faulty b))
     (cond (eqb r 3) (if (alone b h i && misaligned b))
     (cond (eqb r 4) (if (alone b h i && tooLong b))
-    (cond (eqb r 5) (if (alone b h i && short b))
-    (cond (eqb r 6) (if (alone b h i && runt b))
+    (cond (eqb r 5) (if (alone b h i && short limit b))
+    (cond (eqb r 6) (if (alone b h i && runt limit b))
     (cond (eqb r 7) (if (has h i && crash b h))
     (cond (eqb r 8) (if (has h i && crash b h && ltb 512 (b .c)))
     (cond (eqb r 9) (if (has h i && ltb 65536 (b .d)))

@@ -1,5 +1,5 @@
 -- Document 01, 'Host registers', the byte sequences by the past: which byte a D read gives.
---   Start           == what power-up is given: counters, addresses, and the two totals
+--   Start           == what power-up is given: counters, addresses, the two totals, and the limit of short events
 --   byteBy start past register place == the byte at a place of a register after a past
 --   readsInARow past == the pasts before each D read since the last C write, D write or reset, the newest first
 --   placeBy past size == the place of the byte that a D read gives next
@@ -25,6 +25,7 @@ pub record Start : Type 0 where
   pub addresses : ℕ → List ℕ
   pub collisions : ℕ
   pub octets : ℕ
+  pub limit : ℕ
 
 -- a byte of a number, the least significant at place 0
 abbrev pub byteOf : ℕ → ℕ → ℕ
@@ -39,7 +40,7 @@ byteBy start past reg.SetPort place = 0
 byteBy start past reg.GetPort place = gBy past
 byteBy start past (reg.Change r) place = gather 8 (changeBy (start .addresses) past r)
 byteBy start past (reg.Enable r) place = allowedBy past r
-byteBy start past (reg.Counter i r) place = byteOf (counterBy (start .counters) (start .addresses) past i r) place
+byteBy start past (reg.Counter i r) place = byteOf (counterBy (start .limit) (start .counters) (start .addresses) past i r) place
 byteBy start past (reg.Address i) place = getD (addressBy (start .addresses) past i) place 0
 
 -- ---- Which byte comes

@@ -1,9 +1,9 @@
 -- What the past says, row by row: records from power-up, one more record, and its answer, each answer worked out from document 01. Where an observer's rule were
 -- wrong, a row here would be; and so would the chip that is proved to follow it. proofs/Sheet.antt computes every row.
---   allAt v        == power-up with every counter at v, and addresses of zeros
+--   startWith limit v, allAt v == power-up with every counter at v, addresses of zeros, and that limit of short events, or the usual one
 --   Row, told      == a row; the answer that the past gives
 --   Link, found    == a row on a link alone; whether it passes by the past
---   links, settings, crowds, partitions, words, reports, hosts, noticing, credits, sequences == the tables, by what they are about
+--   links, settings, crowds, partitions, words, reports, hosts, noticing, credits, limits, sequences == the tables, by what they are about
 --   sample, sampleAnswers == the sample run of document 01
 -- Assumes nothing.
 use Prim.Native.Nat.{ℕ, _+_}
@@ -19,19 +19,26 @@ use Rattle.past.specs.Link.{passesBy}
 use Rattle.past.specs.Reads.{Start}
 use Rattle.past.specs.Answers.{answerTo}
 
+abbrev pub startWith : ℕ → ℕ → Start
+startWith limit v = record { counters = λ i r. v; addresses = λ i. noAddress; collisions = v; octets = v; limit = limit }
+
 abbrev pub allAt : ℕ → Start
-allAt v = record { counters = λ i r. v; addresses = λ i. noAddress; collisions = v; octets = v }
+allAt = startWith 78
 
 pub record Row : Type 0 where
+  pub limit : ℕ
   pub before : List (List ℕ)
   pub last : List ℕ
   pub wanted : Answer
 
+abbrev pub rowWith : ℕ → List (List ℕ) → List ℕ → Answer → Row
+rowWith limit before last wanted = record { limit = limit; before = before; last = last; wanted = wanted }
+
 abbrev pub row : List (List ℕ) → List ℕ → Answer → Row
-row before last wanted = record { before = before; last = last; wanted = wanted }
+row = rowWith 78
 
 abbrev pub told : Row → Answer
-told w = answerTo (allAt 0) (w .before) (w .last)
+told w = answerTo (startWith (w .limit) 0) (w .before) (w .last)
 
 -- ---- Records, by short names
 
@@ -93,8 +100,11 @@ throughG c = select 0 31 ++ (dWriteRecord c ∷ [])
 abbrev pub gets : List (List ℕ) → ℕ → ℕ → Row
 gets before c value = row (before ++ throughG c) dReadRecord (Value value)
 
+abbrev pub holdsWith : ℕ → List (List ℕ) → ℕ → ℕ → ℕ → Row
+holdsWith limit before p r value = rowWith limit (before ++ select p r) dReadRecord (Value value)
+
 abbrev pub holds : List (List ℕ) → ℕ → ℕ → ℕ → Row
-holds before p r value = row (before ++ select p r) dReadRecord (Value value)
+holds = holdsWith 78
 
 abbrev pub shows : List (List ℕ) → ℕ → Row
 shows before value = row before cReadRecord (Value value)
@@ -389,6 +399,31 @@ credits =
     ∷ holds (alone 0 600 63 0) 0 13 0
     ∷ holds (alone 0 600 64 0 ++ (resetRecord ∷ [])) 16 1 64
     ∷ []
+
+-- ---- The limit of short events
+
+-- with that limit, what TP0's Short Events and Runts hold after these records
+abbrev pub parted : ℕ → List (List ℕ) → ℕ → ℕ → List Row
+parted limit before shorts runts = holdsWith limit before 16 5 shorts ∷ holdsWith limit before 16 6 runts ∷ []
+
+-- of TP0, heard alone for so many bit times: each of the seven limits, one bit time below it and at it; and two bursts at the limit with a reset between them
+abbrev pub limits : List Row
+limits =
+    parted 75 (alone 0 74 9 0) 1 0
+    ++ parted 75 (alone 0 75 9 0) 0 1
+    ++ parted 76 (alone 0 75 9 0) 1 0
+    ++ parted 76 (alone 0 76 9 0) 0 1
+    ++ parted 77 (alone 0 76 9 0) 1 0
+    ++ parted 77 (alone 0 77 9 0) 0 1
+    ++ parted 78 (alone 0 77 9 0) 1 0
+    ++ parted 78 (alone 0 78 9 0) 0 1
+    ++ parted 79 (alone 0 78 9 0) 1 0
+    ++ parted 79 (alone 0 79 9 0) 0 1
+    ++ parted 80 (alone 0 79 9 0) 1 0
+    ++ parted 80 (alone 0 80 9 0) 0 1
+    ++ parted 81 (alone 0 80 9 0) 1 0
+    ++ parted 81 (alone 0 81 9 0) 0 1
+    ++ parted 77 (alone 0 77 9 0 ++ (resetRecord ∷ []) ++ alone 0 77 9 0) 0 2
 
 -- ---- Byte sequences and address writes
 

@@ -1,5 +1,5 @@
 // The run program: reads records from standard input, has each whole block answered, and writes the lines. Everything that matters is in the library below it.
-// An optional argument names a start file with counters and addresses.
+// An optional argument names a start file with counters, addresses and choices.
 ghost use Prim.Native.Nat.{_+_, _≤_, _<_};
 ghost use mathlib.Core.Path.{_≡_};
 ghost use lib.ListN.{length, take, drop};
@@ -166,7 +166,18 @@ fn run_from(chip: FlatChip) {
     );
 }
 
-// Runs with the counters and addresses of the start file that the first argument names.
+fn wide(n: u32) -> u64 {
+    n as u64
+}
+
+// A limit that power-up turns away.
+fn tell_limit(limit: u32) {
+    io::write_all(2, b"run: short event limit ");
+    io::print_decimal(2, wide(limit));
+    io::write_all(2, b" is outside 75 to 81 (refused 13)\n");
+}
+
+// Runs with the counters, addresses and choices of the start file that the first argument names.
 fn run_with() {
     let mut path = io::buffer();
     let n = os::arg(1, &mut path);
@@ -179,10 +190,17 @@ fn run_with() {
     let got = io::read_full(fd, &mut bytes);
     let started = start::start_chip(&bytes[..got]);
     if started.fits {
-        run_from(started.chip);
+        if started.number == 0 {
+            run_from(started.chip);
+            return;
+        }
+        tell_limit(started.limit);
         return;
     }
-    io::write_all(2, b"run: the start file does not have 530 bytes\n");
+    io::write_all(
+        2,
+        b"run: the start file does not have 530 bytes, or 535 with a 0 at the end\n",
+    );
 }
 
 fn main() {

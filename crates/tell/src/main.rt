@@ -147,7 +147,18 @@ fn run_from(chip: FlatChip) {
     );
 }
 
-// Runs with the counters and addresses of the start file that the first argument names.
+fn wide(n: u32) -> u64 {
+    n as u64
+}
+
+// A limit that power-up turns away.
+fn tell_limit(limit: u32) {
+    io::write_all(2, b"tell: short event limit ");
+    io::print_decimal(2, wide(limit));
+    io::write_all(2, b" is outside 75 to 81 (refused 13)\n");
+}
+
+// Runs with the counters, addresses and choices of the start file that the first argument names.
 fn run_with() {
     let mut path = io::buffer();
     let n = os::arg(1, &mut path);
@@ -160,10 +171,17 @@ fn run_with() {
     let got = io::read_full(fd, &mut bytes);
     let started = start::start_chip(&bytes[..got]);
     if started.fits {
-        run_from(started.chip);
+        if started.number == 0 {
+            run_from(started.chip);
+            return;
+        }
+        tell_limit(started.limit);
         return;
     }
-    io::write_all(2, b"tell: the start file does not have 530 bytes\n");
+    io::write_all(
+        2,
+        b"tell: the start file does not have 530 bytes, or 535 with a 0 at the end\n",
+    );
 }
 
 fn main() {

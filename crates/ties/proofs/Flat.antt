@@ -14,6 +14,7 @@ use Rattle.attributes.specs.Credits.{creditedAll}
 use Rattle.attributes.specs.Flat.{flatSize, spotsSize, nineOf, Fit, Readdressed}
 use Rattle.attributes.proofs.FlatLaws.{nine-one}
 use Rattle.chip.specs.declared.FlatChip.{FlatChip}
+use Rattle.chip.specs.declared.Powered.{Powered}
 use Rattle.chip.proofs.FlatLaws.{chip-one}
 use Rattle.himib.specs.declared.Credited.{Credited}
 use Rattle.himib.specs.declared.Stepped.{Stepped}
@@ -63,7 +64,9 @@ one-flat nine r s a b p q =
     ap₂ (λ (x y : List ℕ). record { counters = x; addresses = y }) (e .0) (e .1)
 
 pub one-chip : OneChip
-one-chip chip r s a b p q = chip-one r s a b (p ∙ sym q)
+one-chip t r s a b p q =
+    ap₂ (λ (c : FlatChip) (w : Powered). record { number = w .number; chip = c })
+    (chip-one (r .chip) (s .chip) a b (ap (λ (w : Powered). w .chip) (p ∙ sym q))) (p ∙ sym q)
 
 pub one-left : OneLeft
 one-left t r s a b p q =
@@ -73,7 +76,7 @@ one-left t r s a b p q =
 
 pub one-start : OneStart
 one-start t r s a b p q =
-    ap₂ (λ (c : FlatChip) (w : Started). record { fits = w .fits; chip = c })
+    ap₂ (λ (c : FlatChip) (w : Started). record { fits = w .fits; limit = w .limit; number = w .number; chip = c })
     (chip-one (r .chip) (s .chip) a b (ap (λ (w : Started). w .chip) (p ∙ sym q))) (p ∙ sym q)
 
 -- whatever the counters are: zeros here

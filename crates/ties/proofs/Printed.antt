@@ -17,7 +17,7 @@ use Rattle.attributes.specs.Nine.{noAttributes, addressOf}
 use Rattle.attributes.proofs.NineLaws.{address-alike, address-with-port}
 use Rattle.himib.specs.Runs.{Point, start, addressAt}
 use Rattle.lent.specs.Lists.{cut}
-use Rattle.start.specs.Start.{startSize, addressFrom, portFrom, nineUpTo, supplyIn, portSize}
+use Rattle.start.specs.Start.{addressFrom, portFrom, nineUpTo, fitsIn, supplyIn, portSize}
 use Rattle.past.specs.Answers.{answersBy}
 use Rattle.past.specs.Sheet.{allAt}
 use Rattle.past.proofs.Computing.{telling}
@@ -49,9 +49,9 @@ module _ (s : List ℕ) (bytes : (i : ℕ) → getD s i 0 < 256) where
 
   six-given : (i : ℕ) → i < 9 → length (addressAt i (start (givenBy s))) ≡ 6
   unfolding supplyIn
-  six-given i l = go (eqb (length s) startSize) refl
+  six-given i l = go (fitsIn s) refl
     where
-      go : (b : Bool) → eqb (length s) startSize ≡ b → length (addressAt i (start (givenBy s))) ≡ 6
+      go : (b : Bool) → fitsIn s ≡ b → length (addressAt i (start (givenBy s))) ≡ 6
       go true e = rw e (six-up-to portCount i l)
       go false e = rw e (ap length (address-alike noAttributes i l))
 

@@ -34,7 +34,7 @@ use Rattle.himib.proofs.Runs.{run-on, history-on}
 use Rattle.block.specs.Block.{Work, afterRecord, worked, blockOf}
 use Rattle.lent.specs.Lists.{pieces, cutOff, cut}
 use Rattle.pass.specs.Judged.{happens, history, run}
-use Rattle.start.specs.Start.{startSize, portSize, collisionsFrom, octetsFrom, numberFrom, countersFrom, portFrom, nineUpTo, supplyIn, nothingGiven, startedOf}
+use Rattle.start.specs.Start.{portSize, collisionsFrom, octetsFrom, numberFrom, countersFrom, portFrom, nineUpTo, fitsIn, supplyIn, nothingGiven, startedWith, startedOf}
 use Rattle.ties.specs.Ties.{recordsIn, Ran}
 use Rattle.ties.specs.Program.{Standing, Reading, inputOf, Turn, Turns, bytesOf, begun, lastAnswer, printedAt, OneRun, ReadingsAreARun}
 use Rattle.ties.specs.Program.{givenBy, StartIsGiven, PromisesArePrinted}
@@ -297,10 +297,10 @@ nothing-given : Given nothingGiven
 nothing-given = record { attributes = proper-nothing; collisions-low = omega arith; octets-low = omega arith }
 
 pub start-is-given : StartIsGiven
-unfolding startedOf
-start-is-given s bytes = go (eqb (length s) startSize) refl
+unfolding startedWith startedOf
+start-is-given s bytes = go (fitsIn s) refl
   where
-    go : (b : Bool) → eqb (length s) startSize ≡ b → (at (startedOf s .chip) powerUp ≡ start (givenBy s)) × Given (givenBy s)
+    go : (b : Bool) → fitsIn s ≡ b → (at (startedOf s .chip) powerUp ≡ start (givenBy s)) × Given (givenBy s)
     go true e = (rw e, rw e (supply-given s bytes))
     go false e = (rw e, rw e nothing-given)
 

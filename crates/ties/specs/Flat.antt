@@ -17,9 +17,9 @@ use Rattle.attributes.specs.declared.Met.{Met}
 use Rattle.attributes.specs.declared.Due.{Due}
 use Rattle.attributes.specs.Flat.{spotsSize, nineIn, Fit, Readdressed, Credited}
 use Rattle.chip.specs.declared.Core.{Core}
-use Rattle.chip.specs.declared.Chip.{Chip}
-use Rattle.chip.specs.declared.FlatChip.{FlatChip}
-use Rattle.chip.specs.Flat.{chipOf, Sized}
+use Rattle.chip.specs.declared.Powered.{Powered}
+use Rattle.chip.specs.declared.FlatPowered.{FlatPowered}
+use Rattle.chip.specs.Flat.{poweredBy, Sized}
 use Rattle.himib.specs.declared.Spoken.{Spoken}
 use Rattle.himib.specs.declared.Followed.{Followed}
 use Rattle.himib.specs.declared.Left.{Left}
@@ -33,7 +33,7 @@ abbrev pub OneFlat : Type 0
 OneFlat = (nine : Nine) (r s : Flat) → Fit (r .counters) (r .addresses) → Fit (s .counters) (s .addresses) → nineIn r ≡ nine → nineIn s ≡ nine → r ≡ s
 
 abbrev pub OneChip : Type 0
-OneChip = (chip : Chip) (r s : FlatChip) → Sized r → Sized s → chipOf r ≡ chip → chipOf s ≡ chip → r ≡ s
+OneChip = (t : Powered) (r s : FlatPowered) → Sized (r .chip) → Sized (s .chip) → poweredBy r ≡ t → poweredBy s ≡ t → r ≡ s
 
 abbrev pub OneLeft : Type 0
 OneLeft = (t : Stepped) (r s : Left) → Sized (r .chip) → Sized (s .chip) → steppedBy r ≡ t → steppedBy s ≡ t → r ≡ s

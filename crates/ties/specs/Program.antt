@@ -27,7 +27,7 @@ use Rattle.himib.specs.Runs.{Point, at, start, Given, answersIn}
 use Rattle.block.specs.Block.{Work, blockOf}
 use Rattle.lent.specs.Lists.{cut}
 use Rattle.pass.specs.Judged.{happens, history, run}
-use Rattle.start.specs.Start.{startSize, supplyIn, nothingGiven, startedOf}
+use Rattle.start.specs.Start.{fitsIn, supplyIn, nothingGiven, startedOf}
 use Rattle.ties.specs.Ties.{recordsIn}
 
 pub record Standing : Type 0 where
@@ -83,9 +83,9 @@ ReadingsAreARun =
     (p : Point) (rs : List Reading) (t : Standing) (out : List ℕ) → Turns (begun p) rs t → length (bytesOf rs) / recordLength + 1 < 2 ^ 64
     → recordLength ≤ length out → OneRun p (bytesOf rs) out t
 
--- the supply of a start file, or zeros where it has another size
+-- the supply of a start file, or zeros where it does not fit
 abbrev pub givenBy : List ℕ → Supply
-givenBy s = cond (eqb (length s) startSize) (supplyIn s) nothingGiven
+givenBy s = cond (fitsIn s) (supplyIn s) nothingGiven
 
 abbrev pub StartIsGiven : Type 0
 StartIsGiven =

@@ -26,7 +26,9 @@ those-requires-5 : tie.Need-those-requires-5
 those-requires-5 c κs = search needs
 
 bump-requires : tie.Need-bump-requires
-bump-requires c κs = rw (c .before .before .before .before .before .before .before .before .before .before .before .before .before .pre) (class-low (c .before .before .before .before .before .before .before .before .before .before .before .before .before .args .burst))
+bump-requires c κs =
+    class-low (c .before .before .before .before .before .before .before .before .before .before .before .before .before .args .due .class)
+    (c .before .before .before .before .before .before .before .before .before .before .before .before .before .pre)
 
 bump-requires-2 : tie.Need-bump-requires-2
 bump-requires-2 c κs = search needs
