@@ -1,5 +1,6 @@
 #!/usr/bin/env -S python3 -B
-"""The C client: the header compiles without a warning, its sample runs, its totals are true, and no process is left behind."""
+"""The C client: the header compiles without a warning, its sample runs, its totals are true, it takes short event limits, and no process is
+left behind."""
 
 import random
 import shutil
@@ -33,7 +34,7 @@ int main(int count, char **words)
     struct roverivet_answer answer;
     unsigned char record[ROVERIVET_SIZE];
     const char *command[] = {words[2], "run", NULL};
-    if (count < 3 || roverivet_open(&chip, command, NULL)) return 9;
+    if (count < 3 || roverivet_open(&chip, command, NULL, ROVERIVET_SHORT_LIMIT)) return 9;
     roverivet_record(record, ROVERIVET_TICK);
     if (roverivet_ask(&chip, record, &answer) || strcmp(answer.word, "ok")) return 8;
     printf("%ld\n", (long)chip.pid);
@@ -76,6 +77,57 @@ int main(void)
     return 0;
 }
 '''
+
+# opens a chip with a limit and perhaps a start file or a command; says what that gave, and if it is 0 what bursts of the d behind it add to Short Events
+# and Runts of TP0, or that the program has ended, and with which status
+LIMITS = r'''
+#include "roverivet.h"
+#include <stdlib.h>
+int main(int count, char **words)
+{
+    struct roverivet chip;
+    struct roverivet_answer answer;
+    unsigned char record[ROVERIVET_SIZE];
+    const char *command[] = {"./roverivet", "run", "--binary", NULL};
+    uint32_t value;
+    if (count < 4) return 9;
+    errno = 0;
+    int opened = roverivet_open(&chip, strcmp(words[2], "command") ? NULL : command, strchr(words[2], '/') ? words[2] : NULL,
+                                strtoull(words[1], NULL, 10));
+    printf("%d%s", opened, errno == EINVAL ? " EINVAL" : "");
+    if (opened) return puts("") < 0;
+    roverivet_pulse(record, ROVERIVET_TP(0));
+    for (int pulse = 0; pulse < 4; pulse++)
+        if (roverivet_ask(&chip, record, &answer)) return printf(" ended %d\n", roverivet_close(&chip)) < 0;
+    for (int word = 3; word < count; word++) {
+        roverivet_burst(record, ROVERIVET_TP(0), (uint32_t)strtoul(words[word], NULL, 10), 9);
+        if (roverivet_ask(&chip, record, &answer)) return 8;
+        for (unsigned r = 5; r < 7; r++) {
+            if (roverivet_counter(&chip, 16, r, &value)) return 7;
+            printf(" %u", (unsigned)value);
+        }
+    }
+    puts("");
+    return roverivet_close(&chip);
+}
+'''
+
+# by Q-6: d below the limit is a short event, other bursts of nine octets are runts; a limit outside 75 to 81 is refused with 13
+LIMIT_ROWS = [(('75', '-', '74', '75'), '0 1 0 1 1'), (('81', '-', '80', '81'), '0 1 0 1 1'), (('78', '-', '77', '78'), '0 1 0 1 1'),
+              (('75', 'traces/short-limit-75.start', '74', '75'), '0 1 0 1 1'), (('81', 'traces/counter-wraps.start', '80', '81'), '0 1 0 1 1'),
+              (('78', 'traces/short-limit-75.start', '74'), '0 ended 2'), (('75', 'traces/refused-limit-74.start', '74'), '0 ended 2'),
+              (('78', 'command', '77', '78'), '0 1 0 1 1'), (('75', 'command', '74'), '-1 EINVAL'), (('74', 'command', '74'), '13'),
+              *((((number, where, '74'), '13') for number in ('0', '74', '82', '334', '4294967295', '4294967374', '18446744073709551615')
+                 for where in ('-', 'traces/short-limit-75.start')))]
+
+
+def limits(checks, harness):
+    for words, due in LIMIT_ROWS:
+        ran = subprocess.run([harness, *words], cwd=TOP, capture_output=True, text=True, timeout=60)
+        checks.equal((ran.returncode, ran.stdout), (0, due + '\n'), f'roverivet_open: limit {" ".join(words)}')
+        said = 'names another, the short event limit' if due == '0 ended 2' else ''
+        checks.check(said in ran.stderr and bool(said) == bool(ran.stderr), f'roverivet_open: what limit {" ".join(words)} says', ran.stderr)
+
 
 # Q-14's own rows, and the edges of 64 bits
 SUMS = [('', '0'), ('7', '0'), ('4294967295 2 1', '4294967298'), ('0 4294967295 0', '4294967296'), ('5 5', '0'), ('5 4', '4294967295'),
@@ -128,6 +180,11 @@ def main():
         if compiled(source, 'totals'):
             sums(checks, f'{folder}/totals')
             print('true totals: rows by hand and random ones')
+        source = Path(folder) / 'limits.c'
+        source.write_text(LIMITS)
+        if compiled(source, 'limits'):
+            limits(checks, f'{folder}/limits')
+            print(f'short event limits: {len(LIMIT_ROWS)} ways to open a chip')
     return checks.end()
 
 

@@ -143,7 +143,22 @@ def settings(checks, folder):
     checks.equal(said(roverivet_command('check', str(one))),
                  (f'FAILED {one}: {folder}/none.start: No such file or directory\n0 passed, 1 failed\n',
                   f'roverivet: {one}: {folder}/none.start: No such file or directory\n', 2), 'a start file that is not there')
-    print('check: refusals allowed, start files')
+    one.write_text('start = one.start\nburst aui d=76 => rep 000\nc-write P=31\nc-write R=6\nd-read => val 01\n')
+    (folder / 'one.start').write_text('Short Event limit = 76\n')
+    checks.equal(said(roverivet_command('check', str(one))), (f'passed {one}: 4 records\n1 passed, 0 failed\n', '', 0), 'a limit by the start file')
+    checks.equal(said(roverivet_command('check', '--short-limit', '76', str(one)))[2], 0, 'the same limit beside it')
+    output, errors, status = said(roverivet_command('check', '--short-limit', '75', str(one), 'traces/sample.txt'))
+    told = f'{one}: --short-limit 75: {folder}/one.start names another, the short event limit 76'
+    checks.equal((output, errors, status), (f'FAILED {told}\npassed traces/sample.txt: 10 records\n1 passed, 1 failed\n', f'roverivet: {told}\n', 2),
+                 'another limit beside it is bad for that file alone')
+    (folder / 'one.start').write_text('Total Octets = 1\n')
+    output, errors, status = said(roverivet_command('check', str(one)))
+    checks.check(f'{one}:5: expected val 01, came val 00\n' in output and status == 1, 'without a limit d 76 is a short event', output)
+    checks.equal(said(roverivet_command('check', '--short-limit', '75', str(one), str(one)))[2], 0, '--short-limit holds for every file')
+    checks.equal(said(roverivet_command('check', '--start', '/dev/stdin', str(one), data=bytes(530) + b'\x4b\0\0\0\0'))[2], 0, 'a limit from a pipe')
+    checks.equal(said(roverivet_command('check', '--start', '/dev/stdin', str(one), data=bytes(530) + b'\x4a\0\0\0\0')),
+                 ('', 'check: short event limit 74 is outside 75 to 81 (refused 13)\n', 2), 'a limit from a pipe that is refused')
+    print('check: refusals allowed, start files, short event limits')
 
 
 def bad(checks, folder):

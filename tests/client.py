@@ -1,5 +1,5 @@
 #!/usr/bin/env -S python3 -B
-"""The Python client: its calls, its refusals, an agent that lives on it, true totals, and that it leaves no process behind."""
+"""The Python client: its calls, its refusals, short event limits, an agent that lives on it, true totals, and that it leaves no process behind."""
 
 import contextlib
 import io
@@ -8,6 +8,8 @@ import signal
 import struct
 import subprocess
 import sys
+import tempfile
+from pathlib import Path
 
 from checks import Checks, TOP, ended, need_program
 
@@ -95,6 +97,77 @@ def start_file(**counters):
     """530 bytes with some counters of TP0, by their place."""
     row = [counters.get(f'r{place}', 0) for place in range(13)]
     return struct.pack('<13I', *row) + bytes(6) + bytes(58 * 8) + struct.pack('<2I', counters.get('collisions', 0), 0)
+
+
+def shorts(chip, d):
+    """What a burst of this d on TP0 adds to Short Events and to Runts."""
+    names = ('Short Events', 'Runts')
+    before = [chip.read_counter('TP0', name) for name in names]
+    chip.burst('TP0', d=d, n=9)
+    return tuple(chip.read_counter('TP0', name) - value for name, value in zip(names, before))
+
+
+def limits(checks):
+    """A short event limit by itself, beside a start file, and in one; by Q-6 d below it is a short event, and a reset leaves it."""
+    with tempfile.TemporaryDirectory() as folder:
+        plain, named = Path(folder) / 'plain', Path(folder) / 'named'
+        plain.write_bytes(start_file(r5=7))
+        named.write_bytes(start_file(r5=7) + b'\x4b\0\0\0\0')
+        ways = [(limit, 0, {'short_limit': limit}) for limit in range(75, 82)]
+        ways += [(78, 0, {}), (78, 7, {'start': str(plain)}), (78, 7, {'start': start_file(r5=7) + b'\x4e\0\0\0\0'}), (75, 7, {'start': named}),
+                 (75, 7, {'start': named.read_bytes(), 'short_limit': 75}), (75, 7, {'start': str(named), 'short_limit': 75}),
+                 (81, 7, {'start': plain, 'short_limit': 81}), (80, 7, {'start': bytearray(start_file(r5=7)), 'short_limit': 80})]
+        for limit, events, given in ways:
+            with Chip(**given) as chip:
+                checks.equal(chip.read_counter('TP0', 'Short Events'), events, f'the counters of {list(given)}')
+                for turn in ('at power-up', 'after a reset'):
+                    for _ in range(4):
+                        chip.pulse('TP0')
+                    checks.equal((shorts(chip, limit - 1), shorts(chip, limit)), ((1, 0), (0, 1)), f'limit {limit} {turn}, by {list(given)}')
+                    chip.reset()
+    records = (roverivet.Record(roverivet.BURST, mask=0x100, d=75, n=9), roverivet.Record(roverivet.C_WRITE, byte=31),
+               roverivet.Record(roverivet.C_WRITE, byte=0xE6), roverivet.Record(roverivet.D_READ))
+    for limit, due in ((75, 1), (76, 0), (None, 0)):
+        found = roverivet.answers(b''.join(record.pack() for record in records), short_limit=limit)
+        checks.equal(found[-1].value, due, f'answers with the limit {limit}: Runts of AUI')
+    print(f'limits: {len(ways)} ways to give one')
+
+
+def no_limits(checks):
+    """What is no limit is refused with 13, in whatever way it is given, and nothing is started."""
+    started, launch = [], roverivet.launch
+    roverivet.launch = lambda *words, **more: started.append(words)
+    try:
+        for number, shown in ((0, '0'), (74, '74'), (82, '82'), (256 + 78, '334'), (2**32 - 1, '4294967295'), (2**32 + 78, '4294967374'), (-1, '-1'),
+                              (-78, '-78'), (2**64 + 78, '18446744073709551694'), (10**5000, 'of 16610 bits')):
+            ways = [lambda: Chip(short_limit=number), lambda: Chip(start=bytes(530), short_limit=number), lambda: roverivet.answers(b'', short_limit=number)]
+            if 0 <= number < 2**32:
+                start = bytes(530) + number.to_bytes(4, 'little') + b'\0'
+                ways += [lambda: Chip(start=start), lambda: Chip(start=start, short_limit=number), lambda: roverivet.answers(b'', start),
+                         lambda: roverivet._start_words(start)]
+            for way in ways:
+                try:
+                    way()
+                    checks.check(False, f'limit {shown} was taken')
+                except Refused as error:
+                    checks.equal((error.number, error.reason, str(error)), (13, f'short event limit {shown} is outside 75 to 81',
+                                                                           f'refused 13: short event limit {shown} is outside 75 to 81'), f'limit {shown}')
+        named = bytes(530) + b'\x4c\0\0\0\0'
+        for given, kind, said in (({'start': named, 'short_limit': 75}, ValueError, 'short_limit is 75, and the start file names the short event limit 76'),
+                                  ({'start': bytes(535), 'short_limit': 75}, ValueError, 'short_limit is 75, and the start file names the short event limit 0'),
+                                  ({'start': bytes(529)}, ValueError, 'a start file has 530 or 535 bytes, this has 529'),
+                                  ({'start': bytes(534), 'short_limit': 75}, ValueError, 'a start file has 530 or 535 bytes, this has 534'),
+                                  ({'start': named[:-1] + b'\x01'}, ValueError, 'byte 534 of a start file has to be 0, here it is 1'),
+                                  ({'short_limit': '75'}, TypeError, "short_limit: expected a whole number, found '75'"),
+                                  ({'short_limit': 75.0}, TypeError, 'short_limit: expected a whole number, found 75.0'),
+                                  ({'short_limit': True}, TypeError, 'short_limit: expected a whole number, found True')):
+            checks.equal(raised(kind, lambda: Chip(**given)), said, f'a wrong argument: {said}')
+        checks.check('No such file' in raised(OSError, lambda: Chip(start='no such file', short_limit=75)), 'a start file that is not there')
+    finally:
+        roverivet.launch = launch
+    checks.equal(started, [], 'nothing was started')
+    checks.equal((roverivet.SHORT_LIMIT, list(roverivet.SHORT_LIMITS)), (78, [75, 76, 77, 78, 79, 80, 81]), 'the limits that there are')
+    print('limits: what is none, and nothing is started')
 
 
 def agent(checks):
@@ -288,6 +361,8 @@ def main():
     checks = Checks()
     calls(checks)
     refusals(checks)
+    limits(checks)
+    no_limits(checks)
     agent(checks)
     totals(checks)
     polled_totals(checks)

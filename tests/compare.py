@@ -26,8 +26,9 @@ PATIENCE = 300  # seconds until a program that hangs is ended
 ENOUGH = 20  # failed traces, after which the rest is left out
 JUDGED = 500  # traces, from which on everything must be reached
 
-# What only high counters reach, and so only traces with a start file.
-STARTED = ('wrap.', 'read.bytes4.place2', 'read.bytes4.place3')
+# What only high counters or another short event limit reach, and so only traces with a start file.
+STARTED = ('wrap.', 'read.bytes4.place2', 'read.bytes4.place3', *(f'edge.limit{limit}.' for limit in generate.LIMITS if limit != generate.USUAL),
+           'reset.limit', 'refusal.13')
 
 Outcome = collections.namedtuple('Outcome', 'lines message status')
 
@@ -153,15 +154,18 @@ class Comparison:
         want = run(self.model + reported + words, [data])
         if want.status != 0:
             program.give_up(f'the model failed on {name}: {want.message[-500:]}')
-        for line in want.message.splitlines():
-            _, thing, times = line.split()
-            self.reached[thing] += int(times)
+        self.add_reached(want.message.splitlines())
         got = run(self.program + words, [data] if whole else pieces(data, name))
         self.records += len(data) // rec.SIZE
         fault = None
         if got.lines != want.lines or got.status != 0:
             fault = f'{self.difference(data, got, want.lines)}\n  {self.keep(name, data, start)}'
         self.tell(name, fault)
+
+    def add_reached(self, lines):
+        for line in lines:
+            _, thing, times = line.split()
+            self.reached[thing] += int(times)
 
     def sample(self):
         for name, words in (('program', self.program), ('model', self.model)):
@@ -210,10 +214,12 @@ class Comparison:
             self.tell(f'record by record, {name}', fault)
 
     def bad_starts(self):
-        """A start file of another size, none at all, a folder: a message, and nothing is run."""
-        for size in (0, 1, 529, 531, 1060):
-            (self.folder / f'{size}').write_bytes(bytes(size))
-        for name in ('0', '1', '529', '531', '1060', 'missing', '.'):
+        """A start file of another size, one of 535 bytes whose last is not 0, none at all, a folder: a message, and nothing is run."""
+        files = {str(size): bytes(size) for size in (0, 1, 529, 531, 534, 536, 1060)}
+        files |= {f'535-{last}': generate.limited(None, generate.USUAL, last) for last in (1, 78, 128, 255)}
+        for name, content in files.items():
+            (self.folder / name).write_bytes(content)
+        for name in (*files, 'missing', '.'):
             for who, words in (('program', self.program), ('model', self.model)):
                 got = run([*words, str(self.folder / name)], [rec.SAMPLE])
                 fault = None
@@ -222,6 +228,32 @@ class Comparison:
                 elif not got.message:
                     fault = 'there was no message on standard error'
                 self.tell(f"start file '{name}', {who}", fault)
+
+    def limits(self):
+        """Every d around the limits, at each limit; and a file that names the usual one is as good as one that names none."""
+        data = generate.sheet('limits')
+        for limit in generate.LIMITS:
+            self.compare(f'limit-{limit}', data, generate.limited(generate.start(1), limit))
+        path = self.folder / 'unsaid'
+        for name, content in (('none', None), ('zeros', bytes(530)), ('counters', generate.start(1))):
+            path.write_bytes(content or b'')
+            want = run(self.program + ([str(path)] if content else []), [data])
+            path.write_bytes(generate.limited(content, generate.USUAL))
+            got = run([*self.program, str(path)], [data])
+            self.tell(f'limit 78 said and unsaid, {name}', None if got == want else self.difference(data, got, want.lines))
+
+    def refused_limits(self):
+        """A number that is no limit: the message with 13 at power-up, with records and without, and no line."""
+        path = self.folder / 'refused'
+        for number in generate.REFUSED:
+            path.write_bytes(generate.limited(generate.start(1), number))
+            due = Outcome(b'', f'run: short event limit {number} is outside 75 to 81 (refused 13)\n', 0)
+            for who, words in (('program', self.program), ('model', self.model)):
+                for what, parts in (('the sample', [rec.SAMPLE]), ('no record', []), ('a piece', [b'\x01'])):
+                    got = run([*words, str(path)], parts)
+                    self.tell(f'limit {number}, {what}, {who}', None if got == due else f'came {got}')
+            said = run([*self.model, '--reached', str(path)], []).message.splitlines()
+            self.add_reached(line for line in said if line.startswith('reached '))
 
     def seeds(self):
         many = self.words.traces
@@ -257,6 +289,8 @@ class Comparison:
         self.lock_step()
         if not self.words.without_start:
             self.bad_starts()
+            self.refused_limits()
+            self.limits()
         for name in generate.SHEETS:
             self.compare(f'sheet-{name}', generate.sheet(name))
             if not self.words.without_start:

@@ -128,7 +128,7 @@ def missing(name):
     if found:
         absent = [word for word in found[1].split(', ') if word not in rule_names()]
         return f'tests/planted.py has no {", ".join(absent)}' if absent else None
-    if name.startswith('traces/') and '.' not in name and name != 'traces/LIST':
+    if name.startswith('traces/') and '.' not in name and name not in ('traces/LIST', 'traces/REFUSED'):
         return None if name.removeprefix('traces/') in traces() else 'traces/LIST does not name it'
     return None if (TOP / name).exists() else 'there is no such file'
 

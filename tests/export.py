@@ -35,6 +35,7 @@ SEEDS, RECORDS, SECONDS = range(1300, 1316), 2500, 60
 HEADER = b'attribute,tp0,tp1,tp2,tp3,tp4,tp5,tp6,tp7,aui\n'
 BUFFER = 65536  # bytes that export reads at a time
 WHO = b'export: an attribute is the number of its register, 0 to 12, or all\n'
+FORM = b'export: the start file does not have 530 bytes, or 535 with a 0 at the end\n'
 WORDS = b'export: expected an attribute, and behind it perhaps the name of a start file\n'
 
 # by document 01: one readable frame of 64 octets on TP0, one collision of TP0 and TP1, one record refused
@@ -144,6 +145,22 @@ def every_place(checks):
                                                   'Readable Frames,0,0,0,0,0,0,0,0,1'), 'the last counter of all goes on with 0')
 
 
+def limits(checks):
+    """At each limit: of bursts with d from 74 to 81 those below it are short events, the others runts; and the start file's counters stand."""
+    up = roverivet.Record(roverivet.PULSE, mask=1).pack() * 4
+    bursts = b''.join(roverivet.Record(roverivet.BURST, mask=1, d=d, n=9).pack() for d in range(74, 82))
+    start = bytes(58) + struct.pack('<13I6s', *range(100, 113), bytes(6)) + bytes(58 * 7 + 8)
+    for limit in (None, *generate.LIMITS):
+        rows = rows_of(start)
+        short = (limit or 78) - 74
+        rows[5][0], rows[6][0] = short, 8 - short
+        given = start if limit is None else generate.limited(start, limit)
+        checks.equal(output(exporting('all'), up + bursts, given), (csv(rows), b'', 0), f'limit {limit}')
+        rows[5][0], rows[6][0] = 2 * short, 2 * (8 - short)
+        data = up + bursts + roverivet.Record(roverivet.RESET).pack() + up + bursts
+        checks.equal(output(exporting('all'), data, given), (csv(rows), b'', 0), f'limit {limit}, with a reset')
+
+
 def lengths(checks):
     """Input of every length: what is behind the last whole record is one refusal, and changes nothing."""
     draw = random.Random('lengths')
@@ -193,10 +210,18 @@ def used_badly(checks):
         checks.equal(output(exporting(word), tick), (b'', WHO, 0), f'the attribute {word[:10]!r}')
     with tempfile.TemporaryDirectory() as name:
         path = Path(name) / 'some.start'
-        for size in (0, 1, 529, 531, 5300):
+        for size in (0, 1, 529, 531, 534, 536, 5300):
             path.write_bytes(bytes(size))
-            checks.equal(output(exporting('all', str(path)), tick), (b'', b'export: the start file does not have 530 bytes\n', 0),
-                         f'a start file of {size} bytes')
+            checks.equal(output(exporting('all', str(path)), tick), (b'', FORM, 0), f'a start file of {size} bytes')
+        for last in (1, 255):
+            path.write_bytes(generate.limited(None, 78, last))
+            checks.equal(output(exporting('all', str(path)), tick), (b'', FORM, 0), f'a start file of 535 bytes that ends in {last}')
+        for number in generate.REFUSED:
+            path.write_bytes(generate.limited(None, number))
+            for words, data in ((('all',), tick), (('all',), b''), (('5',), tick)):
+                due = (b'', b'export: short event limit %d is outside 75 to 81 (refused 13)\n' % number, 0)
+                checks.equal(output(exporting(*words, str(path)), data), due, f'limit {number}')
+                checks.equal(output([str(program.model()), '--export', *words, str(path)], data), due, f'limit {number}, model')
         for wrong in (f'{name}/none', name, ''):
             came, said, _ = output(exporting('all', wrong), tick)
             checks.check(came == b'' and said.startswith(b'export: the start file ') and said.count(b'\n') == 1, f'a start file {wrong!r}', said)
@@ -305,7 +330,7 @@ def main():
     need_program()
     checks = Checks()
     if checks.check(export.usable(), f'there is a program {export.EXPORT}'):
-        for part in (same_counters, every_place, lengths, in_pieces, any_bytes, counted, used_badly, closed_and_full, client):
+        for part in (same_counters, every_place, limits, lengths, in_pieces, any_bytes, counted, used_badly, closed_and_full, client):
             part(checks)
         with tempfile.TemporaryDirectory() as name:
             verb(checks, Path(os.path.realpath(name)))

@@ -2,11 +2,12 @@
 """Traces from a seed: random, heavy on boundaries, and stateful enough to reach what lies deep.
 
     generate.py SEED SIZE [--start FILE] > TRACE      about SIZE records; FILE gets the seed's start file
-    generate.py --sheet NAME > TRACE                  a fixed sweep: registers, commands, kinds, damage, refusals
+    generate.py --sheet NAME > TRACE                  a fixed sweep: registers, commands, kinds, damage, refusals, limits
 
 A trace is a list of scenes: links come up, ports collide 31 or 32 times, a register is read while bursts fall
 between its bytes, and so on. The maker keeps a rough idea of the chip's state, only to choose scenes that bite;
-what the right answers are it does not know.
+what the right answers are it does not know. Every third seed has a short event limit of its own, all seven in turn,
+and its bursts lie at that limit.
 """
 
 import argparse
@@ -31,9 +32,23 @@ C_EDGES = [0, 1, 100, 511, 512, 513, 514]
 X_SHORT = [0, 1, 300, 1000, 1023, 1024]
 COUNTER_EDGES = [0, 1, 0xFF, 0xFFFF, 0xFFFFFF, 0xFFFFFFFF, 0xFFFFFFFE, 0xFFFFFF00, 0xFFFFFA12, 0x7FFFFFFF]
 
+LIMITS = range(75, 82)  # short event limits
+USUAL = 78
+REFUSED = [0, 1, 74, 82, 255, 256 + 75, 256 + 78, 256 + 81, 65536 + 78, 2**24 + 78, 2**31 + 78, 2**32 - 178, 2**32 - 1]  # numbers that are none
+
+
+def limit_of(seed):
+    """The short event limit that the seed's start file names, or None."""
+    return LIMITS[seed // 3 % len(LIMITS)] if seed % 3 == 2 else None
+
+
+def limited(content, limit, last=0):
+    """A start file of 535 bytes: these 530, or zeros, with a limit; `last` is the byte behind it."""
+    return (content or bytes(530)) + struct.pack('<IB', limit, last)
+
 
 def start(seed):
-    """The seed's start file (530 bytes), or None where the counters begin at zero."""
+    """The seed's start file (530 bytes, or 535 with a limit), or None where the counters begin at zero."""
     if seed % 3 == 0:
         return None
     chooser = random.Random(f'start {seed}')
@@ -46,12 +61,14 @@ def start(seed):
         parts.append(struct.pack('<13I', *(counter() for _ in range(13))))
         parts.append(chooser.randbytes(6) if chooser.random() < 0.7 else bytes(6))
     parts.append(struct.pack('<2I', counter(), counter()))
-    return b''.join(parts)
+    content, limit = b''.join(parts), limit_of(seed)
+    return content if limit is None else limited(content, limit)
 
 
 class Maker:
     def __init__(self, seed):
         self.seed = seed
+        self.limit = limit_of(seed) or USUAL
         self.random = random.Random(seed)
         self.records = []
         self.at_power_up()
@@ -119,7 +136,7 @@ class Maker:
     def burst(self, mask, d=None, n=None, k=None, c=None, x=None, flags=0, source=None):
         """A burst within range; what isn't given is chosen, mostly at an edge."""
         if d is None:
-            d = self.pick(D_EDGES) if self.chance(0.5) else 1 + self.below(self.pick([100, 2000, 14000, 70000]))
+            d = self.edge_of_d() if self.chance(0.5) else 1 + self.below(self.pick([100, 2000, 14000, 70000]))
         if k is None:
             k = 0 if self.chance(0.6) else self.below(8)
         k = min(k, d)
@@ -136,6 +153,11 @@ class Maker:
             source = self.source((mask & -mask).bit_length() - 1 if mask & ALL else 8)
         self.add(rec.burst(mask, d, n, k, c, x, flags, source))
         self.passing |= mask & 0xFF
+
+    def edge_of_d(self):
+        """A d of the list; those around the short event limit follow it."""
+        d = self.pick(D_EDGES)
+        return d + self.limit - USUAL if abs(d - USUAL) <= 1 else d
 
     def frame(self, port, n=None, flags=0):
         """A burst of one port whose d leaves room for every edge of n."""
@@ -285,7 +307,7 @@ class Maker:
         other = self.port_of(self.listened() & ~port)
         row = self.below(9)
         if row == 0:
-            self.burst(port, d=self.pick([77, 78]), n=9, k=0)
+            self.burst(port, d=self.pick([self.limit - 1, self.limit]), n=9, k=0)
         elif row == 1:
             self.burst(port, d=13000, n=self.pick([63, 64, 1518, 1519]), flags=self.pick([0, 1]))
         elif row == 2:
@@ -838,12 +860,32 @@ def refusals_sheet():
     return records
 
 
+def limits_sheet():
+    """Bursts of every d around the limits, on each port, by themselves and in collisions, with their counters; and all of it again after a reset."""
+    records = []
+    for _ in range(2):
+        records += [rec.PULSES[255]] * 4
+        for d in range(LIMITS[0] - 2, LIMITS[-1] + 3):
+            for place, bank in enumerate(BANKS):
+                other = 1 << (place + 1) % 9
+                records += [rec.burst(1 << place, d, 9), rec.burst(1 << place, d, 9, 1, flags=rec.FCS_BAD | rec.RATE_ERROR),
+                            rec.burst(1 << place | other, d, 9), rec.burst(AUI, d, flags=rec.AUI_COLLISION),
+                            rec.burst(1 << place, 8 * d, d)]
+                records.append(rec.C_WRITES[bank])
+                for r in (0, 4, 5, 6, 7):
+                    records += [rec.C_WRITES[0xE0 + r], rec.D_READ_RECORD]
+                records.append(rec.burst(1 << place, 1000, 64))
+        records.append(rec.RESET_RECORD)
+    return records
+
+
 SHEETS = {
     'registers': registers_sheet,
     'commands': commands_sheet,
     'kinds': kinds_sheet,
     'damage': damage_sheet,
     'refusals': refusals_sheet,
+    'limits': limits_sheet,
 }
 
 

@@ -64,6 +64,8 @@ IMPOSSIBLE = {
     'a byte for a C write': ('val 10', 'c-write P=16'),
     'a command refused to a C write': ('ref 4', 'c-write P=16'),
     'a selection refused to a D write': ('ref 7', 'd-write 80'),
+    'a limit refused to a burst': ('ref 13', 'burst tp0 d=77'),
+    'a limit refused to a reset': ('ref 13', 'reset'),
     'ok to an unknown kind': ('ok', 'raw 09' + '00' * 31),
 }
 

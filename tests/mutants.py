@@ -17,9 +17,10 @@ from pathlib import Path
 import compare
 import generate
 import program
+import record as rec
 import totals
 
-# name: what stands in the model, what is planted
+# name: what stands in the model, what is planted; a rule that stands at two places has four texts
 PLANTED = {
     # thresholds
     '31 collisions partition': ('COLLISIONS_TO_PARTITION: u8 = 32', 'COLLISIONS_TO_PARTITION: u8 = 31'),
@@ -50,6 +51,34 @@ PLANTED = {
     'five pulses pass': ('PULSES_TO_PASS: u8 = 4', 'PULSES_TO_PASS: u8 = 5'),
     'd 1,000,000 refused': ('LONGEST_BURST: u32 = 1_000_000', 'LONGEST_BURST: u32 = 999_999'),
     'd 1,000,001 taken': ('LONGEST_BURST: u32 = 1_000_000', 'LONGEST_BURST: u32 = 1_000_001'),
+    # the short event limit
+    'the limit is ignored': ('b.d < self.short_below {', 'b.d < SHORT_BELOW {'),
+    'd at the limit is a short event': ('b.d < self.short_below {', 'b.d <= self.short_below {'),
+    'd at the limit is a short event, but for 78': ('b.d < self.short_below {', 'b.d < self.short_below + (self.short_below != SHORT_BELOW) as u32 {'),
+    'a limit below 78 is ignored': ('b.d < self.short_below {', 'b.d < self.short_below.max(SHORT_BELOW) {'),
+    'a limit above 78 is ignored': ('b.d < self.short_below {', 'b.d < self.short_below.min(SHORT_BELOW) {'),
+    'a reset takes the limit back to 78': ('*self = Chip::fresh(self.attributes, self.short_below);', '*self = Chip::fresh(self.attributes, SHORT_BELOW);'),
+    'the limit also taken for Runts': ('b.n < SMALLEST_FRAME {', 'b.n < self.short_below {'),
+    'the size of a runt moves with the limit': ('b.n < SMALLEST_FRAME {', 'b.n + SHORT_BELOW < SMALLEST_FRAME + self.short_below {'),
+    'a short event is a runt as well': ('self.credit(port, class, 1);', 'self.credit(port, class, 1); if class == SHORT_EVENTS { self.credit(port, RUNTS, 1); }'),
+    'a collision below the limit is a short event': ('if scene.collision {\n                    self.credit(port, COLLISIONS, 1);', 'if scene.collision {\n                    self.credit(port, if b.d < self.short_below { SHORT_EVENTS } else { COLLISIONS }, 1);'),
+    'the limit moves the rate mismatch': ('b.d > MISMATCH_ABOVE {', 'b.d + SHORT_BELOW > MISMATCH_ABOVE + self.short_below {'),
+    'the limit moves what lasts': ('let lasting = b.d > LASTING_ABOVE;', 'let lasting = b.d + SHORT_BELOW > LASTING_ABOVE + self.short_below;'),
+    'the limit moves what is late': ('if b.c > LATE_ABOVE {', 'if b.c + SHORT_BELOW > LATE_ABOVE + self.short_below {'),
+    'the limit moves what is very long': ('if b.d > VERY_LONG_ABOVE {\n', 'if b.d + SHORT_BELOW > VERY_LONG_ABOVE + self.short_below {\n'),
+    'limit 74 accepted': ('LEAST_LIMIT: u32 = 75', 'LEAST_LIMIT: u32 = 74'),
+    'limit 75 refused': ('LEAST_LIMIT: u32 = 75', 'LEAST_LIMIT: u32 = 76'),
+    'limit 82 accepted': ('LARGEST_LIMIT: u32 = 81', 'LARGEST_LIMIT: u32 = 82'),
+    'limit 81 refused': ('LARGEST_LIMIT: u32 = 81', 'LARGEST_LIMIT: u32 = 80'),
+    'every limit accepted': ('return Err(13);', ''),
+    'a limit outside taken for 78': ('return Err(13);', 'return Ok(Chip::fresh(attributes, SHORT_BELOW));'),
+    '13 at the first record': ('return Err(13);', '', 'match decode(bytes) {\n                Err(number)', 'if self.short_below < LEAST_LIMIT || self.short_below > LARGEST_LIMIT { return Answer::Refused(13); }\n            match decode(bytes) {\n                Err(number)'),
+    '13 behind the other refusals of a record': ('return Err(13);', '', 'Ok(Record::Burst(burst)) => self.burst(&burst)', 'Ok(_) if self.short_below < LEAST_LIMIT || self.short_below > LARGEST_LIMIT => Answer::Refused(13),\n                Ok(Record::Burst(burst)) => self.burst(&burst)'),
+    'the limit cut to one byte': ('=> number(bytes, START_BYTES)', '=> number(bytes, START_BYTES) & 0xff'),
+    'the limit cut to two bytes': ('=> number(bytes, START_BYTES)', '=> number(bytes, START_BYTES) & 0xffff'),
+    "the limit's most significant byte first": ('=> number(bytes, START_BYTES)', '=> number(bytes, START_BYTES).swap_bytes()'),
+    "a start file's last byte free": ('LONG_START_BYTES if bytes[START_BYTES + 4] == 0 =>', 'LONG_START_BYTES =>'),
+    'a start file without its last byte': ('LONG_START_BYTES: usize = START_BYTES + 5', 'LONG_START_BYTES: usize = START_BYTES + 4', 'if bytes[START_BYTES + 4] == 0 =>', '=>'),
     # the record
     'k 8 taken': ('b.k > 7', 'b.k > 8'),
     'octets summed in 32 bits': ('8 * b.n as u64 + b.k as u64 > d', 'b.n.wrapping_mul(8).wrapping_add(b.k as u32) as u64 > d'),
@@ -89,7 +118,7 @@ PLANTED = {
     'very long for a single port alone': ('if b.d > VERY_LONG_ABOVE {\n', 'if ones == 1 && b.d > VERY_LONG_ABOVE {\n'),
     'very long not in collisions': ('if b.d > VERY_LONG_ABOVE {\n', 'if !scene.collision && b.d > VERY_LONG_ABOVE {\n'),
     'dribble alone is alignment': ('b.fcs_bad && b.k > 0', 'b.k > 0'),
-    'runt before short': ('b.d < SHORT_BELOW {', 'b.d < SHORT_BELOW && b.n >= SMALLEST_FRAME {'),
+    'runt before short': ('b.d < self.short_below {', 'b.d < self.short_below && b.n >= SMALLEST_FRAME {'),
     'FCS before too long': ('} else if b.n > LARGEST_FRAME {', '} else if b.n > LARGEST_FRAME && !b.fcs_bad {'),
     'octets by d': ('self.credit(port, READABLE_OCTETS, b.n);', 'self.credit(port, READABLE_OCTETS, b.d / 8);'),
     'total octets of all frames': ('if class == READABLE_FRAMES {', 'if class != READABLE_FRAMES { self.attributes.total_octets = self.attributes.total_octets.wrapping_add(b.n); } else {'),
@@ -126,7 +155,7 @@ PLANTED = {
     'a short clean burst zeroes by the alternate algorithm': ('if lasting && port.connected {', 'if (lasting || alternate) && port.connected {'),
     'a short clean burst zeroes by the standard algorithm': ('if lasting && port.connected {', 'if (lasting || !alternate) && port.connected {'),
     'a short clean burst zeroes a count of 31': ('if lasting && port.connected {', 'if (lasting || port.count == 31) && port.connected {'),
-    'only a short event keeps the count': ('if lasting && port.connected {', 'if b.d >= SHORT_BELOW && port.connected {'),
+    'only a short event keeps the count': ('if lasting && port.connected {', 'if b.d >= self.short_below && port.connected {'),
     'a runt keeps the count, however long': ('if lasting && port.connected {\n                        self.ports[place].count = 0;', 'if lasting && port.connected {\n                        if b.n >= SMALLEST_FRAME { self.ports[place].count = 0; }'),
     'a frame with bad FCS keeps the count': ('if lasting && port.connected {\n                        self.ports[place].count = 0;', 'if lasting && port.connected {\n                        if !b.fcs_bad { self.ports[place].count = 0; }'),
     'only data sent zeroes the count': ('if lasting && port.connected {\n                        self.ports[place].count = 0;', 'if lasting && port.connected {\n                        if sent_data { self.ports[place].count = 0; }'),
@@ -223,19 +252,19 @@ PLANTED = {
     'tick restarts the sequence': ('fn tick(&mut self) -> Answer {', 'fn tick(&mut self) -> Answer {\n            self.host.place = 0;'),
     'burst restarts the sequence': ('let scene = self.scene(b);', 'let scene = self.scene(b); self.host.place = 0;'),
     # reset
-    'reset zeroes attributes': ('*self = Chip::power_up(self.attributes);', '*self = Chip::power_up(ZERO);'),
-    'reset zeroes addresses': ('*self = Chip::power_up(self.attributes);', '*self = Chip::power_up(self.attributes); for port in self.attributes.ports.iter_mut() { port.address = [0; 6]; }'),
-    'reset keeps enables': ('*self = Chip::power_up(self.attributes);', 'let kept = self.enables; *self = Chip::power_up(self.attributes); self.enables = kept;'),
-    'reset keeps changes': ('*self = Chip::power_up(self.attributes);', 'let kept = self.changes; *self = Chip::power_up(self.attributes); self.changes = kept;'),
-    'reset sets link changes': ('*self = Chip::power_up(self.attributes);', 'let links = self.get(Command::Links); *self = Chip::power_up(self.attributes); self.changes[2] = links;'),
-    'reset keeps G': ('*self = Chip::power_up(self.attributes);', 'let kept = self.got; *self = Chip::power_up(self.attributes); self.got = kept;'),
-    'reset keeps the selection': ('*self = Chip::power_up(self.attributes);', 'let kept = self.host; *self = Chip::power_up(self.attributes); self.host = kept;'),
-    'reset keeps the alternate algorithm': ('*self = Chip::power_up(self.attributes);', 'let kept = self.alternate_tp; *self = Chip::power_up(self.attributes); self.alternate_tp = kept;'),
-    'reset keeps the interface error': ('*self = Chip::power_up(self.attributes);', 'let kept = self.interface_error; *self = Chip::power_up(self.attributes); self.interface_error = kept;'),
-    'reset keeps the status': ('*self = Chip::power_up(self.attributes);', 'let kept = (self.sqe_test, self.mjlp); *self = Chip::power_up(self.attributes); (self.sqe_test, self.mjlp) = kept;'),
-    'reset keeps counts': ('*self = Chip::power_up(self.attributes);', 'let kept = self.ports; *self = Chip::power_up(self.attributes); for place in 0..PORTS { self.ports[place].count = kept[place].count; }'),
-    'reset keeps pulses': ('*self = Chip::power_up(self.attributes);', 'let kept = self.ports; *self = Chip::power_up(self.attributes); for place in 0..TWISTED { self.ports[place].pulses = kept[place].pulses; }'),
-    'reset keeps disabled ports': ('*self = Chip::power_up(self.attributes);', 'let kept = self.ports; *self = Chip::power_up(self.attributes); for place in 0..PORTS { self.ports[place].enabled = kept[place].enabled; }'),
+    'reset zeroes attributes': ('*self = Chip::fresh(self.attributes, self.short_below);', '*self = Chip::fresh(ZERO, self.short_below);'),
+    'reset zeroes addresses': ('*self = Chip::fresh(self.attributes, self.short_below);', '*self = Chip::fresh(self.attributes, self.short_below); for port in self.attributes.ports.iter_mut() { port.address = [0; 6]; }'),
+    'reset keeps enables': ('*self = Chip::fresh(self.attributes, self.short_below);', 'let kept = self.enables; *self = Chip::fresh(self.attributes, self.short_below); self.enables = kept;'),
+    'reset keeps changes': ('*self = Chip::fresh(self.attributes, self.short_below);', 'let kept = self.changes; *self = Chip::fresh(self.attributes, self.short_below); self.changes = kept;'),
+    'reset sets link changes': ('*self = Chip::fresh(self.attributes, self.short_below);', 'let links = self.get(Command::Links); *self = Chip::fresh(self.attributes, self.short_below); self.changes[2] = links;'),
+    'reset keeps G': ('*self = Chip::fresh(self.attributes, self.short_below);', 'let kept = self.got; *self = Chip::fresh(self.attributes, self.short_below); self.got = kept;'),
+    'reset keeps the selection': ('*self = Chip::fresh(self.attributes, self.short_below);', 'let kept = self.host; *self = Chip::fresh(self.attributes, self.short_below); self.host = kept;'),
+    'reset keeps the alternate algorithm': ('*self = Chip::fresh(self.attributes, self.short_below);', 'let kept = self.alternate_tp; *self = Chip::fresh(self.attributes, self.short_below); self.alternate_tp = kept;'),
+    'reset keeps the interface error': ('*self = Chip::fresh(self.attributes, self.short_below);', 'let kept = self.interface_error; *self = Chip::fresh(self.attributes, self.short_below); self.interface_error = kept;'),
+    'reset keeps the status': ('*self = Chip::fresh(self.attributes, self.short_below);', 'let kept = (self.sqe_test, self.mjlp); *self = Chip::fresh(self.attributes, self.short_below); (self.sqe_test, self.mjlp) = kept;'),
+    'reset keeps counts': ('*self = Chip::fresh(self.attributes, self.short_below);', 'let kept = self.ports; *self = Chip::fresh(self.attributes, self.short_below); for place in 0..PORTS { self.ports[place].count = kept[place].count; }'),
+    'reset keeps pulses': ('*self = Chip::fresh(self.attributes, self.short_below);', 'let kept = self.ports; *self = Chip::fresh(self.attributes, self.short_below); for place in 0..TWISTED { self.ports[place].pulses = kept[place].pulses; }'),
+    'reset keeps disabled ports': ('*self = Chip::fresh(self.attributes, self.short_below);', 'let kept = self.ports; *self = Chip::fresh(self.attributes, self.short_below); for place in 0..PORTS { self.ports[place].enabled = kept[place].enabled; }'),
 }
 
 ADDED = 'self.sum = self.sum.checked_add(difference(self.last, later) as u64)?;'
@@ -268,6 +297,12 @@ class Traces:
         self.size = size
         self.made = []
         self.model = [str(program.model())]
+        sheet = generate.sheet('limits')
+        self.fixed = [(f'sheet-{name}', generate.sheet(name), generate.start(1)) for name in generate.SHEETS]
+        self.fixed += [(f'limit-{limit}', sheet, generate.limited(generate.start(1), limit)) for limit in generate.LIMITS]
+        self.fixed += [(f'refused-{number}', rec.SAMPLE, generate.limited(None, number)) for number in generate.REFUSED]
+        self.fixed += [('535-bytes-and-no-zero', rec.SAMPLE, generate.limited(None, generate.USUAL, 1)),
+                       ('534-bytes', rec.SAMPLE, generate.limited(None, generate.USUAL)[:-1])]
 
     def one(self, at):
         while at >= len(self.made):
@@ -275,11 +310,10 @@ class Traces:
         return self.made[at]
 
     def make(self, at):
-        sheets = list(generate.SHEETS)
-        if at < len(sheets):
-            name, data, start = f'sheet-{sheets[at]}', generate.sheet(sheets[at]), generate.start(1)
+        if at < len(self.fixed):
+            name, data, start = self.fixed[at]
         else:
-            seed = at - len(sheets)
+            seed = at - len(self.fixed)
             name, data, start = f'seed-{seed}', generate.trace(seed, self.size), generate.start(seed)
         words = []
         if start is not None:
@@ -290,7 +324,7 @@ class Traces:
 
     def found(self, words):
         """The name of the first trace on which this program differs from the model."""
-        for at in range(self.many + len(generate.SHEETS)):
+        for at in range(self.many + len(self.fixed)):
             name, data, start, want = self.one(at)
             if compare.run(words + start, [data]).lines != want:
                 return name
@@ -299,12 +333,15 @@ class Traces:
 
 def planted(source, name):
     """The model's source with one wrong rule, within the state machine alone."""
-    old, new = (PLANTED | SUMMED)[name]
+    texts = (PLANTED | SUMMED)[name]
     end = source.index('pub mod reached')
-    times = source[:end].count(old)
-    if times != 1:
-        program.give_up(f"'{name}': its text stands {times} times in the model's state machine")
-    return source[:end].replace(old, new) + source[end:]
+    machine, rest = source[:end], source[end:]
+    for old, new in zip(texts[::2], texts[1::2]):
+        times = machine.count(old)
+        if times != 1:
+            program.give_up(f"'{name}': its text stands {times} times in the model's state machine")
+        machine = machine.replace(old, new)
+    return machine + rest
 
 
 def main():

@@ -1,6 +1,6 @@
 """Wrong rules, for tests/rules.py: each is planted in the definition and in the code alike.
 
-A rule has a name, the section of document 01 that it is from ('Many readings' is Q-14), what it says in our own words, what
+A rule has a name, the section of document 01 that it is from ('Many readings' is Q-14, 'Short event limit' Q-6), what it says in our own words, what
 is planted in its place, and replacements: a file below crates/, a text that occurs in it exactly once, and what takes its
 place. A new rule of document 01 or of a request gets an entry here, and docs/MAP.md names it as `tests/planted: name`.
 """
@@ -178,7 +178,7 @@ rule('late_without_a_collision', 'Burst', 'Late Events come with Collisions.', '
            'lib', 'those(Attributes::LATE_ABOVE < burst.c, crowd)', 'those(Attributes::LATE_ABOVE < burst.c, due.heard)'))
 rule('collisions_for_a_single_port', 'Burst', 'Collisions for each heard port of a collision.', 'for every heard port',
      *both('attributes', 'Credits', '(one (share .collision))', '(one (share .heard))', 'lib', 'bump(counters, crowd, Attributes::COLLISIONS, 1);', 'bump(counters, due.heard, Attributes::COLLISIONS, 1);'))
-rule('short_at_78', 'Burst', 'Short Events below 78.', 'below 79',
+rule('short_at_78', 'Burst', 'Short Events below 78, where nothing else is chosen.', 'below 79',
      *both('attributes', 'Credits', 'shortBelow = 78', 'shortBelow = 79', 'lib', 'pub const SHORT_BELOW: u32 = 78;', 'pub const SHORT_BELOW: u32 = 79;'))
 rule('runts_of_64', 'Burst', 'Runts below 64 octets.', 'below 65',
      *both('attributes', 'Credits', 'shortest = 64', 'shortest = 65', 'lib', 'pub const SHORTEST: u32 = 64;', 'pub const SHORTEST: u32 = 65;'))
@@ -188,10 +188,10 @@ rule('alignment_without_dribble', 'Burst', 'A bad FCS is an alignment error with
      *both('attributes', 'Credits', '(cond (ltb 0 (burst .k)) alignmentErrors fcsErrors)', '(cond (ltb 0 (burst .k)) fcsErrors alignmentErrors)',
            'lib', '            return Attributes::ALIGNMENT_ERRORS;\n        }\n        return Attributes::FCS_ERRORS;', '            return Attributes::FCS_ERRORS;\n        }\n        return Attributes::ALIGNMENT_ERRORS;'))
 rule('too_long_before_short', 'Burst', 'The classes are asked in their order.', 'a short event with few octets is a runt',
-     ('attributes/specs/Credits.antt', 'cond (ltb (burst .d) shortBelow) shortEvents', 'cond (ltb (burst .n) shortest) runts'),
-     ('attributes/specs/Credits.antt', '(cond (ltb (burst .n) shortest) runts\n', '(cond (ltb (burst .d) shortBelow) shortEvents\n'),
-     ('attributes/src/lib.rt', '    if burst.d < Attributes::SHORT_BELOW {\n        return Attributes::SHORT_EVENTS;\n    }\n    if burst.n < Attributes::SHORTEST {\n        return Attributes::RUNTS;\n    }',
-      '    if burst.n < Attributes::SHORTEST {\n        return Attributes::RUNTS;\n    }\n    if burst.d < Attributes::SHORT_BELOW {\n        return Attributes::SHORT_EVENTS;\n    }'))
+     ('attributes/specs/Credits.antt', 'cond (ltb (burst .d) limit) shortEvents', 'cond (ltb (burst .n) shortest) runts'),
+     ('attributes/specs/Credits.antt', '(cond (ltb (burst .n) shortest) runts\n', '(cond (ltb (burst .d) limit) shortEvents\n'),
+     ('attributes/src/lib.rt', '    if burst.d < limit {\n        return Attributes::SHORT_EVENTS;\n    }\n    if burst.n < Attributes::SHORTEST {\n        return Attributes::RUNTS;\n    }',
+      '    if burst.n < Attributes::SHORTEST {\n        return Attributes::RUNTS;\n    }\n    if burst.d < limit {\n        return Attributes::SHORT_EVENTS;\n    }'))
 rule('octets_plus_one', 'Burst', "A readable frame adds n to its port's octets.", 'n + 1',
      *both('attributes', 'Credits', '(cond (inClass share readableFrames) (burst .n) 0)', '(cond (inClass share readableFrames) (burst .n + 1) 0)',
            'lib', 'Attributes::READABLE_OCTETS, burst.n);', 'Attributes::READABLE_OCTETS, std::num::wrapping_add_u32(burst.n, 1));'))
@@ -577,11 +577,12 @@ rule('reset_keeps_g', 'Reset and power-up', 'G is zero.', 'a reset keeps it',
      ('chip/specs/Chip.antt', 'coreReset c = coreUp (c .kept)', 'coreReset c = record { repeater = powerUp; changes = replicate 8 0; enables = replicate 8 0; kept = c .kept; «interface_error» = false; g = c .g }'),
      ('chip/src/lib.rt', '        let kept = self.kept;\n        Core::power_up(kept)', '        let kept = self.kept;\n        let mut out = Core::power_up(kept);\n        out.g = self.g;\n        out'))
 rule('reset_zeroes_the_counters', 'Reset and power-up', 'Counters survive a reset.', 'Transmit Collisions and Total Octets do not',
-     ('chip/specs/Chip.antt', 'coreReset c = coreUp (c .kept)', 'coreReset c = coreUp (record { «transmit_collisions» = 0; «total_octets» = 0 })'),
-     ('chip/src/lib.rt', '        let kept = self.kept;\n        Core::power_up(kept)', '        let kept = Kept {\n            transmit_collisions: 0,\n            total_octets: 0,\n        };\n        Core::power_up(kept)'))
+     ('chip/specs/Chip.antt', 'coreReset c = coreUp (c .kept)', 'coreReset c = coreUp (record { «transmit_collisions» = 0; «total_octets» = 0; choices = c .kept .choices })'),
+     ('chip/src/lib.rt', '        let kept = self.kept;\n        Core::power_up(kept)', '        let mut kept = self.kept;\n        kept.transmit_collisions = 0;\n        kept.total_octets = 0;\n        Core::power_up(kept)'))
 rule('counters_given_are_lost', 'Reset and power-up', 'At power-up the caller gives the counters.', 'Transmit Collisions starts at 0',
-     *both('chip', 'Chip', 'chipUp given = record { core = coreUp (given .kept);', 'chipUp given = record { core = coreUp (record { «transmit_collisions» = 0; «total_octets» = given .kept .«total_octets» });',
-           'lib', '        let core = Core::power_up(supply.kept);', '        let mut kept = supply.kept;\n        kept.transmit_collisions = 0;\n        let core = Core::power_up(kept);'))
+     *both('chip', 'Chip', 'coreUp (withChoices (given .kept) (settledOf (given .kept .choices)))',
+           'coreUp (record { «transmit_collisions» = 0; «total_octets» = given .kept .«total_octets»; choices = settledOf (given .kept .choices) })',
+           'lib', '        kept.choices = choices.settled();', '        kept.choices = choices.settled();\n        kept.transmit_collisions = 0;'))
 rule('reset_keeps_the_selection', 'Reset and power-up', 'P and R are zero.', 'a reset keeps them',
      ('himib/specs/Step.antt', 'taken ask.Reset source s h = finished (withCore s (coreReset (s .core))) powerUp', 'taken ask.Reset source s h = finished (withCore s (coreReset (s .core))) h'),
      ('himib/src/lib.rt', 'host: Host::power_up(),', 'host: h,'))
@@ -625,3 +626,43 @@ rule('readings_most_significant_first', 'Many readings', 'The first byte of a re
 rule('stretches_apart', 'Many readings', 'The first reading of a stretch follows the last of the one before.', 'each stretch is a row of its own',
      *both('chain', 'Chain', '(totalOn (c .total) (c .last) (r ∷ rs))', '(totalOn (c .total) r (r ∷ rs))',
            'lib', 'total_on(total, chain.last, readings)', 'total_on(total, readings[0], readings)'))
+
+# ---- The short event limit
+
+rule('short_at_the_limit', 'Short event limit', 'A burst with d below the limit is a short event.', 'and so is one at the limit',
+     *both('attributes', 'Credits', 'cond (ltb (burst .d) limit) shortEvents', 'cond (lib.Dec.leb (burst .d) limit) shortEvents',
+           'lib', 'if burst.d < limit {', 'if burst.d <= limit {'))
+rule('runts_by_the_limit', 'Short event limit', 'Nothing else depends on the limit.', 'Runts have fewer octets than the limit says',
+     *both('attributes', 'Credits', '(cond (ltb (burst .n) shortest) runts', '(cond (ltb (burst .n) limit) runts',
+           'lib', 'if burst.n < Attributes::SHORTEST {', 'if burst.n < limit {'))
+rule('lowest_limit_76', 'Short event limit', '75 is a limit.', '76 is the lowest',
+     *both('attributes', 'Credits', 'shortFrom = 75', 'shortFrom = 76', 'lib', 'pub const SHORT_FROM: u32 = 75;', 'pub const SHORT_FROM: u32 = 76;'))
+rule('highest_limit_80', 'Short event limit', '81 is a limit.', '80 is the highest',
+     *both('attributes', 'Credits', 'shortTo = 81', 'shortTo = 80', 'lib', 'pub const SHORT_TO: u32 = 81;', 'pub const SHORT_TO: u32 = 80;'))
+rule('limit_74_accepted', 'Short event limit', 'A limit below 75 is turned away.', '74 is taken',
+     *both('chip', 'Chip', 'leb shortFrom (choices', 'leb 74 (choices', 'lib', '(Attributes::SHORT_FROM <= self.short_limit)', '(74 <= self.short_limit)'))
+rule('limit_82_accepted', 'Short event limit', 'A limit above 81 is turned away.', '82 is taken',
+     *both('chip', 'Chip', 'leb (choices .«short_limit») shortTo', 'leb (choices .«short_limit») 82',
+           'lib', '(self.short_limit <= Attributes::SHORT_TO)', '(self.short_limit <= 82)'))
+rule('limit_refused_with_2', 'Short event limit', 'The number is 13.', 'it is 2',
+     *both('chip', 'Chip', 'limitRefused = 13', 'limitRefused = 2', 'lib', 'pub const LIMIT_REFUSED: u8 = 13;', 'pub const LIMIT_REFUSED: u8 = 2;'))
+rule('any_limit_taken', 'Short event limit', 'A limit is turned away at power-up.', 'power-up answers 0 to any',
+     *both('chip', 'Chip', 'cond (fits choices) 0 limitRefused', 'cond (fits choices) 0 0', 'lib', '        Choices::LIMIT_REFUSED\n', '        0\n'))
+rule('refused_limit_kept', 'Short event limit', 'Beside a 13 stands the chip with 78.', 'the chip with the limit turned away',
+     *both('chip', 'Chip', 'cond (fits choices) choices usual', 'cond (fits choices) choices choices', 'lib', '        Choices::usual()\n', '        self\n'))
+rule('reset_brings_78_back', 'Short event limit', 'A reset leaves the limit.', 'it brings the usual one back',
+     *both('chip', 'Chip', 'coreReset c = coreUp (c .kept)', 'coreReset c = coreUp (withChoices (c .kept) usual)',
+           'lib', '        let kept = self.kept;\n        Core::power_up(kept)', '        let mut kept = self.kept;\n        kept.choices = Choices::usual();\n        Core::power_up(kept)'))
+rule('burst_brings_78_back', 'Short event limit', 'Nothing changes the limit.', 'the first burst brings the usual one back',
+     *both('chip', 'Chip', '      choices = c .kept .choices;\n', '      choices = usual;\n',
+           'lib', '        let choices = kept.choices;\n        let sum', '        let choices = Choices::usual();\n        let sum'))
+rule('bursts_go_by_78', 'Short event limit', 'A burst is judged by the limit that was given.', 'by 78',
+     *both('himib', 'Bursts', 'limit = c .kept .choices .«short_limit»;', 'limit = 78;', 'lib', 'limit: choices.short_limit,', 'limit: 78,'))
+rule('limit_cut_to_a_byte', 'Short event limit', "A start file's limit has four bytes.", 'the first alone counts',
+     *both('start', 'Start', '«short_limit» = numberFrom s limitFrom', '«short_limit» = getD s limitFrom 0',
+           'lib', 'number_from(s, Started::LIMIT_FROM)', 's[Started::LIMIT_FROM] as u32'))
+rule('limit_one_byte_on', 'Short event limit', 'The limit stands right behind the 530 bytes.', 'one byte further on',
+     *both('start', 'Start', 'limitFrom = startSize', 'limitFrom = startSize + 1', 'lib', 'LIMIT_FROM: usize = Started::SIZE;', 'LIMIT_FROM: usize = Started::SIZE + 1;'))
+rule('last_byte_free', 'Short event limit', 'The last of 535 bytes is 0.', 'it may be anything',
+     *both('start', 'Start', ' || (eqb (length s) chosenSize && eqb (getD s spareAt 0) 0)', ' || eqb (length s) chosenSize',
+           'lib', 'return s[Started::SPARE] == 0;', 'return true;'))

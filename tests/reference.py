@@ -57,7 +57,7 @@ def main():
     attributes = {int(places): name for banks, places, name, _, _ in rows('Registers') if banks == '16-23, 31' and places != '14'}
     checks.equal(attributes, dict(enumerate(roverivet.ATTRIBUTES)), 'the attributes of the page and of the client')
     checks.equal(derive.NAMES, list(roverivet.ATTRIBUTES), 'the attributes of the traces and of the client')
-    checks.equal([int(row[0]) for row in rows('Refusals')], [9, 8, 3, 2, 1, 7, 5, 6, 4, 10], 'the refusals in their order')
+    checks.equal([int(row[0]) for row in rows('Refusals')], [9, 8, 3, 2, 1, 7, 5, 6, 4, 10, 13], 'the refusals in their order')
     checks.equal(sorted(int(row[0]) for row in rows('Refusals')), sorted(roverivet.REFUSALS), 'the refusals of the client')
     checks.equal(len(rows('Credits')), 8, 'the table of credits')
     shown = roverivet_command('--help').stdout.decode()

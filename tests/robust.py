@@ -20,11 +20,11 @@ from checks import Checks, TOP, ended, need_program
 
 import roverivet
 from roverivet import KINDS, Record, SIZE
-from tools import explain, picture, text, totals, watch
+from tools import explain, picture, startfile, text, totals, watch
 from tools.text import TextError
 
 SECONDS = 60  # that any one process may take
-EDGES = (0, 1, 2, 7, 8, 9, 63, 64, 77, 78, 511, 512, 513, 552, 553, 600, 1024, 1025, 1518, 1519, 65536, 65537,
+EDGES = (0, 1, 2, 7, 8, 9, 63, 64, 74, 75, 77, 78, 80, 81, 511, 512, 513, 552, 553, 600, 1024, 1025, 1518, 1519, 65536, 65537,
          999_999, 1_000_000, 1_000_001, 2**31, 2**32 - 1)
 
 
@@ -162,20 +162,64 @@ def closed_and_full(checks, draw):
     process = roverivet.launch(stdin=subprocess.DEVNULL, stdout=subprocess.PIPE)
     checks.equal((process.stdout.read(), process.wait(SECONDS)), (b'', 0), 'no input at all')
     process.stdout.close()
-    for size in (0, 1, 529, 531, 5300):
-        with tempfile.NamedTemporaryFile() as file:
-            file.write(bytes(size))
-            file.flush()
-            process = subprocess.Popen(roverivet.command() + [file.name], stdin=subprocess.PIPE, stdout=subprocess.PIPE,
-                                       stderr=subprocess.PIPE, bufsize=0)
-            threading.Thread(target=write_pieces, args=(process.stdin, data[:3200], None), daemon=True).start()
-            came, told = process.stdout.read(), process.stderr.read()
-            checks.check(finished(process) and b'530' in told and not came, f'a start file of {size} bytes is turned away with a message',
-                         f'said {told!r}, {len(came)} bytes of answers')
-            process.stdout.close()
-            process.stderr.close()
-    print('run: a full device, readers that leave, no input, start files of other sizes', flush=True)
-    return 10
+    print('run: a full device, readers that leave, no input', flush=True)
+    return 5
+
+
+NO_START = b'run: the start file does not have 530 bytes, or 535 with a 0 at the end\n'
+
+
+def no_start(checks, draw):
+    """Start files that are none, and limits that are none: a message, no answer, and an end, whether records come or the input stays open."""
+    starts = [(bytes(size), NO_START) for size in (0, 1, 529, 531, 532, 533, 534, 536, 1060, 5300)]
+    starts += [(draw.randbytes(534) + bytes([last]), NO_START) for last in (1, 78, 128, 255)]
+    for limit in (0, 1, 74, 82, 255, 331, 334, 337, 65536 + 78, 2**24 + 78, 2**31 + 78, 2**32 - 1, *(draw.randrange(256, 2**32) for _ in range(5))):
+        starts.append((draw.randbytes(530) + limit.to_bytes(4, 'little') + b'\0', b'run: short event limit %d is outside 75 to 81 (refused 13)\n' % limit))
+    data = b''.join(any_record(draw) for _ in range(100))
+    for start, due in starts:
+        for given in (data, b''):
+            with tempfile.NamedTemporaryFile() as file:
+                file.write(start)
+                file.flush()
+                process = subprocess.Popen(roverivet.command() + [file.name], stdin=subprocess.PIPE, stdout=subprocess.PIPE, stderr=subprocess.PIPE, bufsize=0)
+                watchdog = threading.Timer(SECONDS, process.kill)
+                watchdog.start()
+                if given:
+                    threading.Thread(target=write_pieces, args=(process.stdin, given, None), daemon=True).start()
+                came, told = process.stdout.read(), process.stderr.read()  # with nothing given the input stays open until it ends by itself
+                checks.equal((came, told, process.wait(SECONDS)), (b'', due, 0), f'a start file of {len(start)} bytes that ends in {start[-5:].hex()}')
+                watchdog.cancel()
+                for pipe in (process.stdout, process.stderr) if given else (process.stdin, process.stdout, process.stderr):
+                    pipe.close()
+    print(f'run: {len(starts)} start files that it does not take, each with a message and no answer', flush=True)
+    return 2 * len(starts)
+
+
+def start_files(checks, draw):
+    """Start files of both sizes, both ways; and texts of them that are damaged: bytes, or a mistake at its place."""
+    taken = 0
+    for turn in range(2000):
+        whole = bytes(draw.choice((0, 0, 0, 255, draw.randrange(256))) for _ in range(530))
+        if turn % 2:
+            whole += draw.choice((75, 78, 81, 0, 74, 334, 2**32 - 1, draw.randrange(2**32))).to_bytes(4, 'little') + b'\0'
+        lines = '\n'.join(startfile.start_text(whole))
+        back = startfile.start_bytes(lines)
+        if back != whole or turn % 500 == 0:
+            checks.equal(back, whole, f'dis and asm of the start file {whole.hex()}')
+        some = lines.split('\n')[-draw.randrange(1, 4):]
+        source = damaged(draw, '\n'.join(some).encode())
+        source += draw.choice((b'', b'0', b'99999999999', b'\nShort Event limit = 75', b'\nShort Event limit = 4294967374'))
+        try:
+            made = startfile.start_bytes(source, 'some')
+            fine, taken = len(made) in (530, 535) and startfile.start_bytes('\n'.join(startfile.start_text(made))) == made, taken + 1
+        except TextError as error:
+            lines = source.split(b'\n')
+            fine = 1 <= error.line <= len(lines) and 1 <= error.column <= len(lines[error.line - 1]) + 1 and error.reason
+        if not fine or turn % 500 == 0:
+            checks.check(fine, f'asm of the start file {source!r}')
+    checks.check(50 < taken < 1950, f'{taken} of 2000 texts of start files were taken')
+    print(f'dis: 2000 start files, both ways; asm: 2000 damaged ones, {taken} taken and the others told where they are wrong', flush=True)
+    return 4000
 
 
 def finished(process):
@@ -354,7 +398,7 @@ def main(words):
     checks, draw = Checks(), random.Random(seed)
     print(f'seed {seed}')
     tried = traces_in_pieces(checks, draw) + every_length(checks, draw) + answered_at_once(checks, draw)
-    tried += closed_and_full(checks, draw) + harness_dies(checks) + watched(checks, draw)
+    tried += closed_and_full(checks, draw) + no_start(checks, draw) + harness_dies(checks) + watched(checks, draw) + start_files(checks, draw)
     tried += both_ways(checks, draw) + any_text(checks, draw) + any_readings(checks, draw) + commands(checks, draw)
     checks.check(tried >= 100_000, f'{tried} inputs, fewer than 100,000')
     print(f'{tried} inputs')

@@ -71,6 +71,72 @@ def fields(checks, folder):
     print('log: what a line holds')
 
 
+def limits(checks, folder):
+    """The hash of what power-up was given covers the short event limit, wherever it came from."""
+    log, path, start = folder / 'limits.log', folder / 'limits.txt', folder / 'limits.start'
+    path.write_text('tick => ok\n')
+    start.write_text('Total Octets = 9\nShort Event limit = 76\n')
+
+    def hashed(total, limit):
+        data = bytes(526) + bytes([total, 0, 0, 0]) + (bytes([limit, 0, 0, 0, 0]) if limit else b'')
+        return hashlib.sha256(data).hexdigest()
+
+    def started(verb, *words):
+        ran = roverivet_command(verb, '--log', str(log), *words, str(path))
+        return ran.returncode, [line['start'] for line in lines_of(log)[-2:]]
+
+    for verb in ('check', 'run'):
+        checks.equal(started(verb), (0, [None] * 2), f'{verb}: no start file')
+        checks.equal(started(verb, '--short-limit', '75'), (0, [hashed(0, 75)] * 2), f'{verb} --short-limit 75')
+        checks.equal(started(verb, '--short-limit', '78'), (0, [hashed(0, 78)] * 2), f'{verb} --short-limit 78')
+        checks.equal(started(verb, '--start', str(start)), (0, [hashed(9, 76)] * 2), f'{verb}: a start file that names a limit')
+        checks.equal(started(verb, '--start', str(start), '--short-limit', '76'), (0, [hashed(9, 76)] * 2), f'{verb}: and the same beside it')
+    start.write_text('Total Octets = 9\n')
+    checks.equal(started('check', '--start', str(start)), (0, [hashed(9, None)] * 2), 'a start file that names none')
+    checks.equal(started('check', '--start', str(start), '--short-limit', '81'), (0, [hashed(9, 81)] * 2), 'and a limit beside it')
+    log = folder / 'no-limit.log'
+    checks.equal(started('check', '--short-limit', '75')[0], 0, 'a limit that is fine')
+    start.write_text('Short Event limit = 74\n')
+    path.write_text('start = limits.start\ntick => ok\n')
+    reason = 'short event limit 74 is outside 75 to 81 (refused 13)'
+    ran = roverivet_command('check', '--log', str(log), str(path))
+    checks.equal((ran.stdout, ran.stderr.decode(), ran.returncode), (b'', f'check: {reason}\n', 2), 'a limit that is refused')
+    checks.equal([[line[name] for name in ('test', 'verdict', 'records', 'first_failing', 'reason')] for line in lines_of(log)[2:]],
+                 [[str(path), 'running', 0, None, ''], [str(path), 'red', 0, None, reason]], 'is a red attempt, and no record was run')
+    for words in (('--short-limit', '74'), ('--start', str(start))):
+        roverivet_command('check', '--log', str(log), *words, str(path), 'traces/sample.txt')
+        checks.equal([[line[name] for name in ('test', 'verdict', 'reason')] for line in lines_of(log)[-4:]],
+                     [[test, verdict, reason * (verdict == 'red')] for test in (str(path), 'traces/sample.txt') for verdict in ('running', 'red')],
+                     f'{words[0]}: each file is refused')
+    output, _, status = verdict(log)
+    checks.check(status == 1 and output.startswith(f'red {path}: 4 attempts\n') and f' red: {reason}\n' in output, 'and the verdict tells it', output)
+    one, two = folder / 'one.start', folder / 'limit-client.log'
+    one.write_bytes(bytes(530) + b'\x4b\0\0\0\0')
+    for given, due in (({'short_limit': 75}, hashed(0, 75)), ({'start': one}, hashed(0, 75)), ({'start': str(one), 'short_limit': 75}, hashed(0, 75)),
+                       ({'start': bytes(530), 'short_limit': 81}, hashed(0, 81)), ({'start': bytes(530)}, hashed(0, None)), ({}, None)):
+        handed, launch = [], roverivet.launch
+
+        def launched(start=None, **pipes):
+            handed.append(start)
+            return launch(start, **pipes)
+
+        roverivet.launch = launched
+        try:
+            with roverivet.Chip(log=two, name='limits', **given) as chip:
+                chip.tick()
+        finally:
+            roverivet.launch = launch
+        checks.equal([line['start'] for line in lines_of(two)[-2:]], [due] * 2, f'a client: {list(given)}')
+        checks.equal([start and hashlib.sha256(start).hexdigest() for start in handed], [due], f'a client: {list(given)}: the bytes that the program got')
+    count = len(lines_of(two))
+    try:
+        roverivet.Chip(log=two, name='limits', short_limit=74)
+        checks.check(False, 'a client: limit 74 was taken')
+    except roverivet.Refused as error:
+        checks.equal((error.number, len(lines_of(two))), (13, count), 'a client: limit 74 is refused, and no connection was made')
+    print('log: short event limits')
+
+
 def verdicts(checks, folder):
     log, path = folder / 'verdicts.log', folder / 'one.txt'
     check(log, path, GREEN)
@@ -309,7 +375,7 @@ def main():
     need_program()
     checks = Checks()
     with tempfile.TemporaryDirectory() as name:
-        for part in (fields, verdicts, damage, at_once, client):
+        for part in (fields, limits, verdicts, damage, at_once, client):
             part(checks, Path(os.path.realpath(name)))
     return checks.end()
 

@@ -25,7 +25,8 @@ class Table:
     def __init__(self, checks, folder):
         self.checks, self.folder = checks, folder
         for name, data in (('good.txt', GOOD), ('wrong.txt', WRONG), ('empty.txt', b'# nothing\n'), ('short.start', b'short\0'),
-                           ('bad.start', b'tp0 Runts = x\n'), ('other.txt', GOOD.replace(b'100', b'102')), ('refused.txt', b'tick mask=001\n'),
+                           ('bad.start', b'tp0 Runts = x\n'), ('76.start', b'Short Event limit = 76\n'), ('82.start', b'Short Event limit = 82\n'),
+                           ('other.txt', GOOD.replace(b'100', b'102')), ('refused.txt', b'tick mask=001\n'),
                            ('good.readings', b'7\n9\n'), ('wrong.readings', b'7\n-9\n')):
             (folder / name).write_bytes(data)
         (folder / 'good.bin').write_bytes(self.run('asm', 'good.txt').stdout)
@@ -142,6 +143,20 @@ def start(table, status, verb):
         table.is_status(status, table.run(*table.words(verb, 'good.txt'), '--start', file, data=b''), f'{verb} --start {file}')
 
 
+def limit(table, status, verb):
+    for words, number in ((('--short-limit', '74'), 74), (('--start', '82.start'), 82), (('--short-limit', '4294967374'), 4294967374)):
+        ran = table.run(*table.words(verb, 'good.txt'), *words, data=b'')
+        table.checks.equal((ran.stdout, ran.stderr.decode(), ran.returncode),
+                           (b'', f'{verb}: short event limit {number} is outside 75 to 81 (refused 13)\n', status), f'{verb} {" ".join(words)}')
+
+
+def two_limits(table, status, verb):
+    ran = table.run(*table.words(verb, 'good.txt'), '--start', '76.start', '--short-limit', '75', data=b'')
+    table.is_status(status, ran, f'{verb} --start 76.start --short-limit 75')
+    table.checks.check(b'--short-limit 75: 76.start names another, the short event limit 76\n' in ran.stderr and b'ok' not in ran.stdout,
+                       f'{verb}: both limits are told, and nothing is run', ran.stderr)
+
+
 def misnamed(table, status, verb):
     ran = table.run(verb, 'good.txt', '--attribute', 'Readable')
     table.is_status(status, ran, f'{verb} --attribute Readable')
@@ -195,6 +210,8 @@ LINES = {
     'text where records are expected': text,
     'a line with a mistake, unless a person types it': talked,
     'a start file that cannot be read, has another size, or a mistake': start,
+    'a short event limit that is refused with 13; nothing is run': limit,
+    'a short event limit other than the one that the start file names': two_limits,
     'a file without a record': nothing,
     'a point of `--since` that the logs do not have': point,
     'an output, a report or a log that cannot be written': unwritable,

@@ -12,6 +12,8 @@ import random
 import re
 import subprocess
 import sys
+import tempfile
+from pathlib import Path
 
 from checks import Checks, TOP, need_program
 
@@ -116,12 +118,35 @@ def used_badly(checks):
     tick = roverivet.Record(roverivet.TICK).pack()
     checks.equal(output(telling.TELL, b'', None), ([], b'', 0), 'nothing to tell')
     checks.equal(output(telling.TELL, tick, None, 'a', 'b')[:2], ([], b'tell: at most one argument, the name of a start file\n'), 'two arguments')
-    checks.equal(output(telling.TELL, tick, None, str(TOP / 'README.md'))[:2], ([], b'tell: the start file does not have 530 bytes\n'),
-                 'a start file of another length')
+    said = b'tell: the start file does not have 530 bytes, or 535 with a 0 at the end\n'
+    checks.equal(output(telling.TELL, tick, None, str(TOP / 'README.md')), ([], said, 0), 'a start file of another length')
+    with tempfile.TemporaryDirectory() as folder:
+        path = Path(folder) / 'some.start'
+        for size in (0, 529, 531, 534, 536):
+            path.write_bytes(bytes(size))
+            checks.equal(output(telling.TELL, tick, None, str(path)), ([], said, 0), f'a start file of {size} bytes')
+        path.write_bytes(generate.limited(None, 78, 1))
+        checks.equal(output(telling.TELL, tick, None, str(path)), ([], said, 0), 'a start file of 535 bytes that does not end in 0')
+        for number in generate.REFUSED:
+            path.write_bytes(generate.limited(None, number))
+            due = ([], b'tell: short event limit %d is outside 75 to 81 (refused 13)\n' % number, 0)
+            checks.equal((output(telling.TELL, tick, None, str(path)), output(telling.TELL, b'', None, str(path))), (due, due), f'limit {number}')
     lines, said, _ = output(telling.TELL, tick, None, str(TOP / 'no such file'))
     checks.check(not lines and said.startswith(b'tell: the start file cannot be opened'), 'no start file', said)
     piece = output(telling.TELL, tick + tick[:31], None)[0]
     checks.check(len(piece) == 2 and piece[1].startswith(b'2 ref 9 '), 'a last piece is one record', *piece)
+
+
+def limits(checks):
+    """At each limit a single port's burst of one less moves Short Events, and one of the limit Runts; a burst's words have nothing else of it."""
+    up = roverivet.Record(roverivet.PULSE, mask=1).pack() * 4
+    reset = roverivet.Record(roverivet.RESET).pack()
+    for limit in generate.LIMITS:
+        for turn, before in (('at power-up', up), ('after a reset', up + reset + up)):
+            for d, name in ((limit - 1, 'Short Events'), (limit, 'Runts')):
+                lines = output(telling.TELL, before + roverivet.Record(roverivet.BURST, mask=1, d=d, n=9).pack(), generate.limited(None, limit))[0]
+                told = telling.telling_of(lines[-1])
+                checks.equal((told.answer.words, told.left.moved), ('rep 100', {'TP0': [name]}), f'limit {limit}, d {d}, {turn}')
 
 
 def in_pieces(checks):
@@ -149,6 +174,7 @@ def main():
             same_watched(checks, name, data, start)
             same_registers(checks, name, data, start, told)
         used_badly(checks)
+        limits(checks)
         in_pieces(checks)
         alone(checks)
     return checks.end()

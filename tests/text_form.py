@@ -120,6 +120,33 @@ START_ERRORS = [
     ('aui address = 5', 1, 15, 'is no address'),
     ('tp0 Runts = 1\ntp0 runts = 1', 2, 1, 'this value is given in line 1 already'),
     (b'tp0 \xff', 1, 5, 'expected text'),
+    ('Short Event = 75', 1, 1, 'expected PORT COUNTER = NUMBER'),
+    ('tp0 Short Event limit = 75', 1, 1, 'expected PORT COUNTER = NUMBER'),
+    ('Short Event limit 75', 1, 1, 'expected PORT COUNTER = NUMBER'),
+    ('Short Event limit =', 1, 20, 'expected a decimal number, found'),
+    ('Short Event limit = x', 1, 21, 'expected a decimal number, found x'),
+    ('Short Event limit = -75', 1, 21, 'expected a decimal number, found -75'),
+    ('Short Event limit = 7 5', 1, 21, 'expected a decimal number, found 7 5'),
+    ('Short Event limit = ٧٥', 1, 21, 'expected a decimal number, found ٧٥'),
+    ('Short Event limit = 75\nTotal Octets = 7\nshort event LIMIT = 75', 3, 1, 'this value is given in line 1 already'),
+    ('\n  Short Event limit =   4294967296', 2, 25, 'short event limit 4294967296 is outside 75 to 81 (refused 13)'),
+    ('Short Event limit = 4294967374', 1, 21, 'short event limit 4294967374 is outside 75 to 81 (refused 13)'),
+    ('Short Event limit = 00018446744073709551694', 1, 21, 'short event limit 18446744073709551694 is outside 75 to 81 (refused 13)'),
+    (f'Short Event limit = {"9" * 5000}', 1, 21, f'short event limit {"9" * 37}... is outside 75 to 81 (refused 13)'),
+]
+
+# what asm makes of a limit's line behind the 530 bytes, and whether dis writes that very line for it; it is translated, also where power-up refuses it
+LIMIT_LINES = [
+    ('Short Event limit = 75', True, b'\x4b\x00\x00\x00\x00'),
+    ('Short Event limit = 78', True, b'\x4e\x00\x00\x00\x00'),
+    ('Short Event limit = 81', True, b'\x51\x00\x00\x00\x00'),
+    ('Short Event limit = 0', True, b'\x00\x00\x00\x00\x00'),
+    ('Short Event limit = 74', True, b'\x4a\x00\x00\x00\x00'),
+    ('Short Event limit = 82', True, b'\x52\x00\x00\x00\x00'),
+    ('Short Event limit = 334', True, b'\x4e\x01\x00\x00\x00'),
+    ('Short Event limit = 1263225675', True, b'\x4b\x4b\x4b\x4b\x00'),
+    ('Short Event limit = 4294967295', True, b'\xff\xff\xff\xff\x00'),
+    ('SHORT  event\tLimit=0000000000000000000075  # a remark', False, b'\x4b\x00\x00\x00\x00'),
 ]
 
 
@@ -177,7 +204,43 @@ def start_files(checks):
     for turn in range(200):
         data = bytes(draw.choice((0, 0, 255, draw.randrange(256))) for _ in range(530))
         checks.equal(startfile.start_bytes('\n'.join(startfile.start_text(data))), data, f'start file {turn}, both ways')
-    print('201 start files, both ways')
+    for line, canonical, tail in LIMIT_LINES:
+        checks.equal(startfile.start_bytes(line), bytes(530) + tail, f'asm of a start file: {line}')
+        checks.equal(startfile.start_bytes(f'{line}\nTotal Octets = 9'), bytes(526) + b'\x09\x00\x00\x00' + tail, f'asm of a start file: {line}, and a counter')
+        if canonical:
+            checks.equal(list(startfile.start_text(bytes(530) + tail)), [line], f'dis of a start file: {line}')
+    for turn in range(200):
+        data = bytes(draw.choice((0, 0, 255, draw.randrange(256))) for _ in range(534)) + b'\0'
+        lines = list(startfile.start_text(data))
+        checks.check(lines[-1].startswith('Short Event limit = '), f'start file {turn} of 535 bytes has the line')
+        checks.equal(startfile.start_bytes('\n'.join(lines)), data, f'start file {turn} of 535 bytes, both ways')
+    print(f'401 start files, {len(LIMIT_LINES)} lines of a limit, both ways')
+
+
+def start_commands(checks):
+    """asm --start and dis --start: both sizes, numbers that power-up refuses, and what is no start file."""
+    def does(verb, data, due, what):
+        ran = roverivet_command(verb, '--start', data=data)
+        checks.equal((ran.stdout, ran.stderr.decode(), ran.returncode), due, what)
+
+    does('asm', b'Total Octets = 7\n', (bytes(526) + b'\x07\0\0\0', '', 0), 'asm --start without a limit')
+    does('dis', bytes(526) + b'\x07\0\0\0', (b'Total Octets = 7\n', '', 0), 'dis --start of 530 bytes')
+    for number, tail in ((75, b'\x4b\0\0\0\0'), (78, b'\x4e\0\0\0\0'), (0, bytes(5)), (334, b'\x4e\x01\0\0\0'), (4294967295, b'\xff\xff\xff\xff\0')):
+        source, made = b'Total Octets = 7\nShort Event limit = %d\n' % number, bytes(526) + b'\x07\0\0\0' + tail
+        does('asm', source, (made, '', 0), f'asm --start with the limit {number}')
+        does('dis', made, (source, '', 0), f'dis --start with the limit {number}')
+    for number in (4294967296, 4294967374, 2**64 + 78):
+        does('asm', b'Total Octets = 7\nShort Event limit = %d\n' % number,
+             (b'', f'roverivet: standard input:2:21: short event limit {number} is outside 75 to 81 (refused 13)\n', 2), f'asm --start with the limit {number}')
+    for size in (1, 529, 531, 534, 536, 1070):
+        does('dis', bytes(size), (b'', f'roverivet: standard input: a start file has 530 or 535 bytes, this has {size}\n', 2), f'dis --start of {size} bytes')
+    for last in (1, 78, 255):
+        does('dis', bytes(534) + bytes([last]), (b'', f'roverivet: standard input: byte 534 of a start file has to be 0, here it is {last}\n', 2),
+             f'dis --start of 535 bytes with {last} at the end')
+    line = b'Short Event limit = 75\n'
+    for size in (530, 535):
+        does('dis', line + b'#' * (size - len(line)), (line, '', 0), f'dis --start of a text that has {size} bytes')
+    print('asm --start and dis --start')
 
 
 def commands(checks):
@@ -206,6 +269,7 @@ def main():
     errors(checks, START_ERRORS, startfile.start_bytes, 'start files')
     every_field(checks)
     start_files(checks)
+    start_commands(checks)
     commands(checks)
     return checks.end()
 

@@ -99,7 +99,7 @@ def runs(checks, folder):
         checks.equal(text(roverivet_command(verb, '--start', 'nothing.start', 'traces/sample.txt', *more))[1:],
                      ('roverivet: nothing.start: No such file or directory\n', 2), f'{verb} with a start file that is not there')
         checks.equal(text(roverivet_command(verb, '--start', str(binary), 'traces/sample.txt', *more))[1:],
-                     (f'roverivet: {binary}: a start file has 530 bytes, this has 320\n', 2), f'{verb} with a start file of another size')
+                     (f'roverivet: {binary}: a start file has 530 or 535 bytes, this has 320\n', 2), f'{verb} with a start file of another size')
     print('run: text, binary, standard input, start files, files that are not there')
 
 
@@ -151,6 +151,106 @@ def views(checks, folder):
         data = b'tick\npulse none\n' * 800 if words[0] == '--text' else None
         checks.equal(text(roverivet_command('view', *words, data=data))[1:], (f'roverivet: {reason}\n', 2), f'view: {reason}')
     print('view: what it does not take')
+
+
+# By Q-6: d 76 is a short event at 78, a runt at 75; R 5 and then R 6 of TP0 are read.
+LIMITED = b'pulse tp0 x4\nburst tp0 d=76 n=9\nc-write P=16\nc-write R=5\nd-read\nc-write R=6\nd-read\n'
+CREDIT = {'short': 'Short Events', 'runt': 'Runts'}
+LIMITS = [((), 'short'), (('--short-limit', '78'), 'short'), (('--short-limit', '76'), 'runt'), (('--short-limit', '75'), 'runt'),
+          (('--short-limit', '77'), 'short'), (('--short-limit=81',), 'short'), (('--short-limit', '000075'), 'runt'),
+          (('--start', 'traces/short-limit-75.start'), 'runt'), (('--start', 'traces/short-limit-81.start'), 'short'),
+          (('--start', 'traces/short-limit-75.start', '--short-limit', '75'), 'runt'), (('--start', '75.bin'), 'runt'),
+          (('--start', '75.bin', '--short-limit', '75'), 'runt'), (('--start', '530.bin', '--short-limit', '75'), 'runt'), (('--start', '530.bin'), 'short')]
+LIMIT_VERBS = ('run', 'check', 'explain', 'export', 'talk', 'view')
+NO_LIMITS = ('0', '74', '82', '334', '4294967295', '4294967296', '4294967374', '18446744073709551694', '9' * 40)
+
+
+def limit_words(verb, folder):
+    """The words by which a verb runs LIMITED."""
+    return {'talk': ('talk',), 'view': ('view', str(folder / 'limited.txt'), '-o', str(folder / 'limited.svg')),
+            'export': ('export', str(folder / 'limited.txt'))}.get(verb, (verb, str(folder / 'limited.txt')))
+
+
+def limits(checks, folder):
+    """--short-limit and start files that name a limit, for every verb that powers up a chip."""
+    (folder / 'limited.txt').write_bytes(LIMITED)
+    (folder / '75.bin').write_bytes(bytes(530) + b'\x4b\0\0\0\0')
+    (folder / '530.bin').write_bytes(bytes(530))
+    for words, class_ in LIMITS:
+        words = [str(folder / word) if word.endswith('.bin') else word for word in words]
+        reads = {'short': ('01', '00'), 'runt': ('00', '01')}[class_]
+        due = {'run': ''.join(f'{n} ok\n' for n in range(1, 5)) + f'5 rep 100\n6 ok\n7 ok\n8 val {reads[0]}\n9 ok\n10 val {reads[1]}\n',
+               'check': f'passed {folder}/limited.txt: 10 records\n1 passed, 0 failed\n', 'view': ''}
+        for verb in LIMIT_VERBS if '75' in words or not words else ('run', 'explain'):
+            output, said, status = text(roverivet_command(*limit_words(verb, folder), *words, data=LIMITED if verb == 'talk' else None))
+            what = f'{verb} {" ".join(words)}: a {class_}'
+            checks.equal((said, status), ('', 0), what)
+            if verb in due:
+                checks.equal(output, due[verb], what)
+            elif verb == 'export':
+                rows = [line for line in output.splitlines() if line.startswith(('Short', 'Runts'))]
+                checks.equal(rows, [f'{name},{int(CREDIT[class_] == name)}' + ',0' * 8 for name in CREDIT.values()], what)
+            else:
+                burst = f'5 burst tp0 d=76 n=9: one heard (TP0), data to AUI; {CREDIT[class_]} +1 TP0'
+                checks.check(burst in output.splitlines(), what, output)
+            if verb == 'view':
+                drawn = (folder / 'limited.svg').read_text()
+                checks.equal([name for name in CREDIT.values() if f'{name} +1 TP0' in drawn], [CREDIT[class_]], f'{what}, drawn')
+    kept = roverivet_command('run', '--start', 'traces/counter-wraps.start', '--short-limit', '75', 'traces/counter-wraps.txt')
+    checks.equal((kept.stdout, kept.returncode), (roverivet_command('run', 'traces/counter-wraps.txt').stdout, 0), '--short-limit beside counters')
+    checks.equal(roverivet_command('run', '--short-limit', '75', 'traces/counter-wraps.txt').stdout, kept.stdout, 'and beside those that the trace names')
+    print(f'limits: {len(LIMITS)} ways to name one, {len(LIMIT_VERBS)} verbs')
+
+
+def no_limits(checks, folder):
+    """Refused with 13 at power-up: a message, nothing on standard output, status 2, and no program is started."""
+    marker = folder / 'started'
+    env = {**os.environ, 'ROVERIVET_RUN': str(liars.written(folder, f'#!/bin/sh\ntouch {marker}\nexit 0\n'))}
+    (folder / 'limited.txt').write_bytes(LIMITED)
+    for number in NO_LIMITS:
+        named = [folder / 'text.start']
+        named[0].write_text(f'Short Event limit = {number}\n')
+        if int(number) < 2**32:
+            named.append(folder / 'binary.start')
+            named[1].write_bytes(bytes(530) + int(number).to_bytes(4, 'little') + b'\0')
+        for words in (('--short-limit', number), *(('--start', str(path)) for path in named), ('--short-limit', number, '--start', str(named[-1]))):
+            for verb in LIMIT_VERBS if number in ('74', '4294967374') else ('run', 'check'):
+                (folder / 'limited.svg').unlink(missing_ok=True)
+                ran = roverivet_command(*limit_words(verb, folder), *words, data=LIMITED if verb == 'talk' else None, env=env)
+                checks.equal(text(ran), ('', f'{verb}: short event limit {number} is outside 75 to 81 (refused 13)\n', 2), f'{verb} {" ".join(words)}')
+    checks.check(not marker.exists() and not (folder / 'limited.svg').exists(), 'no program was started, and nothing was drawn')
+    long = roverivet_command('run', '--short-limit', '9' * 5000, data=b'', env=env)
+    checks.equal(text(long), ('', f'run: short event limit {"9" * 37}... is outside 75 to 81 (refused 13)\n', 2), 'a number of 5000 digits')
+    own = folder / 'own.txt'
+    own.write_bytes(b'start = text.start\n' + LIMITED)
+    (folder / 'text.start').write_text('Short Event limit = 82\n')
+    said = 'short event limit 82 is outside 75 to 81 (refused 13)\n'
+    checks.equal(text(roverivet_command('run', str(own), env=env)), ('', f'run: {said}', 2), 'the start file that a trace names')
+    checks.equal(text(roverivet_command('check', str(own), env=env)), ('', f'check: {said}', 2), 'the start file that a trace names, checked')
+    checks.equal(text(roverivet_command('check', 'traces/sample.txt', str(own), env=env)), ('', f'check: {own}: {said}', 2),
+                 'one file of several is named, and none is run')
+    for words in (('--short-limit', '82'), ('--start', str(folder / 'text.start'))):
+        checks.equal(text(roverivet_command('check', *words, 'traces/sample.txt', str(own), env=env)), ('', f'check: {said}', 2),
+                     f'several files with {words[0]}')
+    checks.equal(text(roverivet_command('check', '-', data=b'start = %s\ntick\n' % str(folder / 'text.start').encode(), env=env)), ('', f'check: {said}', 2),
+                 'checked from standard input')
+    for words, reason in ((('--start', 'traces/short-limit-81.start'), 'traces/short-limit-81.start names another, the short event limit 81'),
+                          (('--start', str(folder / 'text.start')), f'{folder}/text.start names another, the short event limit 82')):
+        for verb in LIMIT_VERBS:
+            data = b'' if verb == 'talk' else None
+            output, told, status = text(roverivet_command(*limit_words(verb, folder), '--short-limit', '75', *words, data=data, env=env))
+            before = f'{folder}/limited.txt: ' if verb == 'check' else ''
+            checks.equal((told, status), (f'roverivet: {before}--short-limit 75: {reason}\n', 2), f'{verb} --short-limit 75 {" ".join(words)}')
+            checks.check(not output or verb == 'check' and output.endswith('\n0 passed, 1 failed\n'), f'{verb}: and nothing is answered', output)
+    for word in ('', 'x', '-5', '+75', '7.5', '75 ', '0x4b', '٧٥', '7_5'):
+        for verb in ('run', 'talk', 'check'):
+            wrong = roverivet_command(*limit_words(verb, folder), f'--short-limit={word}', data=b'', env=env)
+            checks.check((wrong.returncode, wrong.stdout) == (2, b'') and b'usage:' in wrong.stderr and b'argument --short-limit: expected' in wrong.stderr,
+                         f'{verb} --short-limit={word!r} is bad usage', wrong.stderr.decode())
+    for verb in ('build', 'asm', 'dis', 'totals'):
+        checks.equal(roverivet_command(verb, '--short-limit', '75', data=b'').returncode, 2, f'{verb} has no --short-limit')
+    checks.check(not marker.exists(), 'no program was started')
+    print(f'limits: {len(NO_LIMITS)} numbers refused with 13, two limits that differ, words that are no number')
 
 
 def findings(checks, folder):
@@ -223,6 +323,8 @@ def main():
         explains(checks)
         talks(checks)
         views(checks, folder)
+        limits(checks, folder)
+        no_limits(checks, folder)
         findings(checks, folder)
         forms(checks, folder)
     return checks.end()

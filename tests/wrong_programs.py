@@ -27,9 +27,9 @@ int main(int count, char **words)
     unsigned char record[ROVERIVET_SIZE];
     const char *command[] = {words[1], NULL};
     int together = count > 2, found = 0;
-    if (count < 2 || (together && roverivet_open(&chip, command, NULL))) return 9;
+    if (count < 2 || (together && roverivet_open(&chip, command, NULL, ROVERIVET_SHORT_LIMIT))) return 9;
     while (fread(record, 1, sizeof record, stdin) == sizeof record) {
-        if (!together && roverivet_open(&chip, command, NULL)) return 9;
+        if (!together && roverivet_open(&chip, command, NULL, ROVERIVET_SHORT_LIMIT)) return 9;
         int wrong = roverivet_ask(&chip, record, &answer);
         found = found || wrong;
         if (!together)

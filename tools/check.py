@@ -7,7 +7,7 @@ from typing import NamedTuple
 
 import roverivet
 import roverivet_log
-from roverivet import Ended, HERE, Running, SIZE
+from roverivet import Ended, HERE, Refused, Running, SIZE
 from tools import explain, inputs, watch
 from tools.inputs import Bad
 from tools.text import TextError
@@ -87,20 +87,46 @@ def wrong(line, answer, allowed):
     return ''
 
 
-def checked(path, given, allowed, progress, log=None):
-    """The Result of one file, with the start file that is given by hand, or else its own."""
+def powered_first(paths, given, limit, log=None):
+    """Raises the first refusal of a short event limit before any file is run. What can be read only once is left for its turn."""
+    refusals = []
+    for path in paths:
+        start = inputs.start_path(path, inputs.settings_of(path), given)
+        try:
+            inputs.powered(start if start and os.path.isfile(start) else None, limit)
+        except (Bad, TextError):
+            pass  # which is told when it is the file's turn
+        except Refused as error:
+            refusals.append(not_powered(path, error, log, len(paths) > 1 and not given and limit is None))
+    if refusals:
+        raise refusals[0]
+
+
+def not_powered(path, error, log, named):
+    """The refusal that a file got at power-up, which is a red attempt in the log. It has the file's name in front if that is wanted."""
+    result = Result(inputs.shown(path))
+    result.trouble, result.bad = f'{error.reason} (refused {error.number})', True
+    if log:
+        ended(begun(log, path, None, None), result)
+    return Refused(error.number, f'{result.name}: {error.reason}') if named else error
+
+
+def checked(path, given, allowed, progress, log=None, limit=None, several=False):
+    """The Result of one file, with the start file that is given by hand, or else its own, and a short event limit beside it."""
     result, attempt = Result(inputs.shown(path)), None
     try:
         one = inputs.trace(path, as_text=True, progress=progress)
         if not one.count:
             raise Bad(f'{result.name}: there is no record to check')
-        start = inputs.start_for(one, given)
+        start = inputs.start_for(one, given, limit)
         attempt = log and begun(log, path, start, one.digest())
         progress.stage('records', one.count)
         _run(result, one, start, allowed or 'refusals' in one.settings, progress, attempt)
         _explain(result, one, start)
     except (Bad, TextError) as error:
         result.trouble, result.bad = str(error), True
+    except Refused as error:
+        raise not_powered(path, error, log, several and not given)
     except Ended as error:
         result.trouble = str(error)
     result.seconds = time.monotonic() - result.began

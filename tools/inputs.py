@@ -195,30 +195,75 @@ def records(path, as_binary=False):
 
 
 def is_start_text(data):
-    """Whether a start file is text. One of 530 bytes is only if all of it is, since counters may be any bytes."""
-    if len(data) != roverivet.START_SIZE:
+    """Whether a start file is text. One of 530 or 535 bytes is only if all of it is, since counters may be any bytes."""
+    if len(data) not in (roverivet.START_SIZE, roverivet.LONG_START_SIZE):
         return is_text(data)
     return not CONTROL.search(data) and data.isascii()
 
 
 def start_of(path, as_text=False):
-    """A start file's 530 bytes, text or binary, or None."""
+    """A start file's bytes, text or binary, or None. What it says of the short event limit is not judged."""
     if path is None:
         return None
     data = read_all(path)
     if as_text or path.endswith('.txt') or is_start_text(data):
         return startfile.start_bytes(data, shown(path))
-    if len(data) != roverivet.START_SIZE:
-        raise Bad(f'{shown(path)}: a start file has {roverivet.START_SIZE} bytes, this has {len(data)}')
+    if roverivet.start_fault(data):
+        raise Bad(f'{shown(path)}: {roverivet.start_fault(data)}')
     return data
 
 
-def start_for(one, given):
-    """The start file that is given by hand, or else the one that a trace names, which stands beside it."""
-    named = one.settings.get('start')
+def start_for(one, given, limit=None):
+    """What power-up is given: the start file that is given by hand, or else the one that a trace names, and a limit beside it."""
+    return powered(start_path(one.path, one.settings, given), limit)
+
+
+def start_path(path, settings, given):
+    """The start file that is given by hand, or else the one that the trace of this path names, which stands beside it."""
+    named = settings.get('start')
     if given or not named:
-        return start_of(given)
-    return start_of(os.path.join(os.path.dirname(one.path), named) if one.path != '-' else named)
+        return given
+    return os.path.join(os.path.dirname(path), named) if path != '-' else named
+
+
+def powered(path, limit=None):
+    """The bytes that power-up is given, or None: a start file's, and beside it a short event limit in decimal digits.
+
+    Raises Refused with 13 for a limit outside 75 to 81, of the digits first.
+    """
+    number = limit_taken(limit)
+    try:
+        start = start_of(path)
+        named = roverivet.limit_of(start) if start is not None else None
+    except startfile.NoLimit as error:
+        if number is None:
+            raise roverivet.no_limit(error.shown) from None
+        named = error.shown
+    if number is not None and named not in (None, number):
+        raise Bad(f'--short-limit {number}: {shown(path)} names another, the short event limit {named}')
+    return roverivet.start_given(start, number)
+
+
+def limit_taken(limit):
+    """The short event limit that some digits are, or None for none of them. Raises Refused with 13."""
+    if limit is None:
+        return None
+    number = startfile.limit_in(limit)
+    if number not in roverivet.SHORT_LIMITS:
+        raise roverivet.no_limit(number)
+    return number
+
+
+def settings_of(path):
+    """What a text sets before its first record, if it is a file that can be read twice and has no mistake so far."""
+    settings = {}
+    if path != '-' and os.path.isfile(path):
+        try:
+            with open(path, 'rb') as file:
+                next(text.bytes_of(lines_of(file, path), path, settings), None)
+        except (Bad, text.TextError, OSError):
+            pass
+    return settings
 
 
 # ---- output

@@ -3,6 +3,7 @@
 import argparse
 import itertools
 import os
+import re
 import signal
 import sys
 from pathlib import Path
@@ -89,9 +90,10 @@ def logged_run(args, one, start, write):
 
 
 def taken(args, ensure=build.ensure):
-    """The trace and the start file that a verb is given, with a program to run them."""
+    """The trace and what power-up is given, with a program to run them."""
+    inputs.limit_taken(args.short_limit)
     one = inputs.trace(args.trace, args.text, args.binary, args.progress)
-    start = inputs.start_for(one, args.start)
+    start = inputs.start_for(one, args.start, args.short_limit)
     ensure(args.progress)
     return one, start
 
@@ -100,8 +102,10 @@ def taken(args, ensure=build.ensure):
 
 
 def check_verb(args):
+    check.powered_first(args.files, args.start, args.short_limit, args.log)
     build.ensure(args.progress)
-    results = (check.checked(path, args.start, args.refusals_allowed, args.progress, args.log) for path in args.files)
+    results = (check.checked(path, args.start, args.refusals_allowed, args.progress, args.log, args.short_limit, len(args.files) > 1)
+               for path in args.files)
     say, version = args.progress.print, list(roverivet_version.lines()) if args.tap or args.junit else []
     found = report.tap(results, say, len(args.files), version) if args.tap else report.plain(results, say)
     for result in found:
@@ -135,7 +139,7 @@ def explain_verb(args):
 
 
 def talk(args):
-    start = inputs.start_of(args.start)
+    start = inputs.powered(args.start, args.short_limit)
     build.ensure(args.progress)
     args.progress.stop()  # waiting for a line is no work
     prompt, found, wrong = sys.stdin.isatty(), 0, 0
@@ -258,6 +262,8 @@ def main(words):
         return status
     except (Bad, TextError, ValueError, check.LogError) as error:
         return complain(error, BAD)
+    except roverivet.Refused as error:  # of a power-up: a refused record is an answer
+        return complain(f'{error.reason} (refused {error.number})', BAD, args.name)
     except roverivet.Missing as error:
         return complain(error, NO_PROGRAM)
     except roverivet.Ended as error:
@@ -287,8 +293,8 @@ def version_verb(_):
     return FINE
 
 
-def complain(error, status):
-    print(f'roverivet: {error}', file=sys.stderr)
+def complain(error, status, who='roverivet'):
+    print(f'{who}: {error}', file=sys.stderr)
     silence()
     return status
 
@@ -375,4 +381,12 @@ def log_option(one):
 
 
 def start_option(one):
-    one.add_argument('--start', metavar='FILE', help='counters and addresses at power-up: 530 bytes, or text')
+    one.add_argument('--start', metavar='FILE', help='counters, addresses and perhaps the short event limit at power-up: 530 or 535 bytes, or text')
+    one.add_argument('--short-limit', metavar='N', type=digits, help='the short event limit at power-up, 75 to 81; 78 if it is named nowhere')
+
+
+def digits(word):
+    """A decimal number of any size for the command line. What is no short event limit is refused with 13, and no bad usage."""
+    if not re.fullmatch(r'[0-9]+', word):
+        raise argparse.ArgumentTypeError(f'expected a decimal number, found {text._shown(word)}')
+    return word

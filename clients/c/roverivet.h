@@ -2,7 +2,7 @@
  *
  *     struct roverivet chip;
  *     struct roverivet_answer answer;
- *     if (roverivet_open(&chip, NULL, NULL)) return 3;
+ *     if (roverivet_open(&chip, NULL, NULL, ROVERIVET_SHORT_LIMIT)) return 3;
  *     unsigned char record[ROVERIVET_SIZE];
  *     roverivet_burst(record, ROVERIVET_TP(0), 1000, 64);
  *     if (roverivet_ask(&chip, record, &answer)) ...        the program has ended
@@ -34,6 +34,9 @@
 #include <unistd.h>
 
 enum { ROVERIVET_SIZE = 32 };
+
+/* The short event limit: the usual one, the least and the largest. */
+enum { ROVERIVET_SHORT_LIMIT = 78, ROVERIVET_LEAST_SHORT_LIMIT = 75, ROVERIVET_LARGEST_SHORT_LIMIT = 81 };
 
 /* How many milliseconds an answer may take. */
 #ifndef ROVERIVET_PATIENCE
@@ -153,14 +156,25 @@ static inline void roverivet_name(const char *command)
         fprintf(stderr, "roverivet: the answers are those of %s, and not of ./roverivet run\n", command);
 }
 
-/* Starts the program. `command` is NULL for ./roverivet run; `start` names a start file or is NULL. With a
- * command of its own, a start file is among its words. Gives 0, or -1 with errno; a command that is not there
- * shows at the first roverivet_ask, and as status 127 of roverivet_close. */
-static inline int roverivet_open(struct roverivet *chip, const char *const *command, const char *start)
+/* Starts the program. `command` is NULL for ./roverivet run; `start` names a start file or is NULL; `limit` is the
+ * short event limit, ROVERIVET_SHORT_LIMIT where nothing else is wanted. With a command of its own, a start file and
+ * another limit are among its words, and `limit` is ROVERIVET_SHORT_LIMIT (else -1 with EINVAL). Gives 0; 13, and
+ * starts nothing, for a limit outside 75 to 81; or -1 with errno. A command that is not there shows at the first
+ * roverivet_ask, and as status 127 of roverivet_close; a start file that does not fit, or that names another limit,
+ * as status 2. */
+static inline int roverivet_open(struct roverivet *chip, const char *const *command, const char *start, uint64_t limit)
 {
-    const char *usual[] = {"./roverivet", "run", "--binary", start ? "--start" : NULL, start, NULL};
+    char number[24];
+    const char *usual[] = {"./roverivet", "run", "--binary", "--short-limit", number, start ? "--start" : NULL, start, NULL};
     int in[2], out[2];
     memset(chip, 0, sizeof *chip);
+    if (limit < ROVERIVET_LEAST_SHORT_LIMIT || limit > ROVERIVET_LARGEST_SHORT_LIMIT)
+        return 13;
+    if (command && limit != ROVERIVET_SHORT_LIMIT) {
+        errno = EINVAL;
+        return -1;
+    }
+    snprintf(number, sizeof number, "%u", (unsigned)limit);
     if (command)
         roverivet_name(command[0]);
     if (socketpair(AF_UNIX, SOCK_STREAM, 0, in))

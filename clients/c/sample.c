@@ -46,7 +46,7 @@ int main(void)
 {
     unsigned char record[ROVERIVET_SIZE], changes = 0;
     struct roverivet_answer answer;
-    if (roverivet_open(&chip, NULL, NULL)) {
+    if (roverivet_open(&chip, NULL, NULL, ROVERIVET_SHORT_LIMIT)) {
         perror("sample");
         return 3;
     }

@@ -7,7 +7,8 @@
         chip.burst('TP0', d=1000, n=64)          # Answer: rep, data to TP1 and AUI
         chip.read_counter('TP0', 'Readable Frames')
 
-A refused record raises Refused, with document 01's number and the reason found in the record. An answer that is
+A refused record raises Refused, with document 01's number and the reason found in the record, and so does a short event
+limit outside 75 to 81: Chip(short_limit=74) raises it with 13, and starts nothing. An answer that is
 missing, surplus, out of order, or that no record of its kind can have raises Ended. A chip is for one thread at a
 time. Nothing here models the chip: the answers are the program's. What stands here is the record's layout, the
 names of ports, registers and commands, and the refusals, for their reasons.
@@ -172,7 +173,8 @@ FIELDS = {'flags': 'flags', 'mask': 'a mask', 'd': 'a duration', 'n': 'octets', 
 REFUSALS = {1: 'a burst without activity', 2: 'a number out of range', 3: 'a port that is not there',
             4: 'an unlisted command', 5: 'an unlisted register', 6: 'the wrong direction for the register',
             7: 'a C write that selects neither P nor R', 8: 'a malformed record',
-            9: 'a piece that is not 32 bytes long', 10: 'an octet check about too many frames'}
+            9: 'a piece that is not 32 bytes long', 10: 'an octet check about too many frames',
+            13: 'a short event limit outside 75 to 81, at power-up'}
 
 
 def refusal(piece, selected=None):
@@ -238,7 +240,7 @@ def _register_refusal(record, selected):
 
 
 class Refused(Exception):
-    """The program turned a record away: document 01's number, and the reason found in the record."""
+    """The program turned a record away: document 01's number, and the reason found in the record. Or no chip was powered up: 13."""
 
     def __init__(self, number, reason):
         super().__init__(number, reason)
@@ -311,7 +313,6 @@ HERE = Path(__file__).resolve().parent.parent.parent
 PROGRAM = HERE / 'target' / 'bin' / 'run'
 CHECKED = PROGRAM.parent / 'run.checked'  # touched when the sources were last found proved
 SOURCES = ('src', 'specs', 'proofs')
-START_SIZE = 530
 
 
 class Missing(Exception):
@@ -404,21 +405,72 @@ def _environment():
     return {name: value for name, value in os.environ.items() if not name.startswith('QEMU_')}
 
 
+# ---- power-up
+
+START_SIZE, LONG_START_SIZE = 530, 535  # bytes of a start file: without a short event limit, and with one and a 0 behind it
+SHORT_LIMIT, SHORT_LIMITS = 78, range(75, 82)  # the limit where nothing is said, and all that there are
+
+
+def start_fault(data):
+    """Why some bytes are no start file, or nothing."""
+    if len(data) not in (START_SIZE, LONG_START_SIZE):
+        return f'a start file has {START_SIZE} or {LONG_START_SIZE} bytes, this has {len(data)}'
+    if len(data) == LONG_START_SIZE and data[-1]:
+        return f'byte {LONG_START_SIZE - 1} of a start file has to be 0, here it is {data[-1]}'
+    return ''
+
+
+def limit_of(start):
+    """The short event limit that the bytes of a start file name, or None."""
+    return int.from_bytes(start[START_SIZE:-1], 'little') if len(start) == LONG_START_SIZE else None
+
+
+def no_limit(shown):
+    """The refusal of what is no short event limit."""
+    return Refused(13, f'short event limit {shown} is outside {SHORT_LIMITS[0]} to {SHORT_LIMITS[-1]}')
+
+
+def start_given(start=None, short_limit=None):
+    """The bytes that power-up is given, or None: a start file, by its path or by its bytes, and a short event limit beside it.
+
+    Raises Refused with 13 for a limit outside 75 to 81, ValueError for what is no start file, and for one that names another limit.
+    """
+    if short_limit is not None and (isinstance(short_limit, bool) or not isinstance(short_limit, int)):
+        raise TypeError(f'short_limit: expected a whole number, found {short_limit!r:.40}')
+    if short_limit is not None and short_limit not in SHORT_LIMITS:
+        raise no_limit(short_limit if short_limit.bit_length() < 128 else f'of {short_limit.bit_length()} bits')
+    if start is None:
+        return None if short_limit is None else bytes(START_SIZE) + _limit_bytes(short_limit)
+    where, data = '', start
+    if not isinstance(start, (bytes, bytearray)):
+        with open(start, 'rb') as file:
+            where, data = f'{start}: ', file.read()
+    if start_fault(data):
+        raise ValueError(where + start_fault(data))
+    named = limit_of(data)
+    if short_limit is not None and named not in (None, short_limit):
+        raise ValueError(f'{where}short_limit is {short_limit}, and the start file names the short event limit {named}')
+    if named is not None and named not in SHORT_LIMITS:
+        raise no_limit(named)
+    return bytes(data) if short_limit is None else bytes(data[:START_SIZE]) + _limit_bytes(short_limit)
+
+
+def _limit_bytes(limit):
+    return limit.to_bytes(4, 'little') + b'\0'
+
+
 def _start_words(start):
-    """(words, file): the argument for a start file given as a path or as its 530 bytes."""
+    """(words, file): the argument for a start file given as a path or as its bytes."""
     if start is None:
         return [], None
-    if isinstance(start, (bytes, bytearray)):
-        if len(start) != START_SIZE:
-            raise ValueError(f'a start file has {START_SIZE} bytes, not {len(start)}')
-        file = tempfile.TemporaryFile()
-        file.write(start)
+    file = tempfile.TemporaryFile()
+    try:
+        file.write(start_given(start))
         file.flush()
-        return [f'/dev/fd/{file.fileno()}'], file
-    size = os.stat(start).st_size
-    if size != START_SIZE:
-        raise ValueError(f'{start}: a start file has {START_SIZE} bytes, not {size}')
-    return [os.path.abspath(start)], None
+    except BaseException:
+        file.close()
+        raise
+    return [f'/dev/fd/{file.fileno()}'], file
 
 
 def launch(start=None, **pipes):
@@ -434,9 +486,9 @@ def launch(start=None, **pipes):
             file.close()
 
 
-def answers(data, start=None, patience=60):
+def answers(data, start=None, patience=60, short_limit=None):
     """The program's answers to a whole trace, as a list of Answer."""
-    with Running(start, patience) as program:
+    with Running(start_given(start, short_limit), patience) as program:
         whole = len(data) - len(data) % SIZE
         found = program.ask(data[:whole])
         return found + (program.finish(data[whole:]) if data[whole:] else [])
@@ -617,14 +669,18 @@ class Status(NamedTuple):
 
 
 class Chip:
-    """One chip pair at power-up, its counters and addresses 0 or those of `start` (a path or 530 bytes).
+    """One chip pair at power-up, its counters and addresses 0 or those of `start` (a path, or the bytes of a start file).
+
+    `short_limit` is the short event limit, 75 to 81. Without it the limit is the start file's, or 78 where that names none. A
+    limit outside is refused with 13, and no chip is started; beside a start file that names another it is a ValueError.
 
     With `log`, the connection is an attempt of the test `name` in that file (roverivet_log.py). It is green if a
     with block in the test ends without an exception, or if the harness calls `passed` before it closes the chip.
     """
 
-    def __init__(self, start=None, patience=60, log=None, name=None):
+    def __init__(self, start=None, patience=60, log=None, name=None, short_limit=None):
         self.attempt, self.claim, self.selected = None, None, (0, 0)
+        start = start_given(start, short_limit)
         self.program = Running(start, patience)
         if log is not None:
             self._begin(log, name, start)

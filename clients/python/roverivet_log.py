@@ -140,10 +140,7 @@ class Attempt:
 
 
 def begun(path, name, start):
-    """The attempt that a chip's connection is, named as its test is."""
-    if start is not None and not isinstance(start, (bytes, bytearray)):
-        with open(start, 'rb') as file:
-            start = file.read()
+    """The attempt that a chip's connection is, named as its test is; `start` is what power-up was given, as bytes, or None."""
     return Attempt(path, name or _test()[0] or os.path.basename(sys.argv[0]) or 'python', start)
 
 

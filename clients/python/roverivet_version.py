@@ -11,7 +11,7 @@ import roverivet
 from roverivet import CHECKED, HERE, PROGRAM
 
 RULES = 'document 01'
-REQUESTS = ('Q-2', 'Q-4', 'Q-9', 'Q-14')  # the change requests that have landed, as 'Q-2': each landing adds its own
+REQUESTS = ('Q-2', 'Q-4', 'Q-6', 'Q-9', 'Q-14')  # the change requests that have landed, as 'Q-2': each landing adds its own
 SAID = HERE / 'target' / 'log' / 'run.say'  # what the checker printed when it proved the program
 PROVED = re.compile(r'^logic=proved .*\bsum=([0-9a-f]+).*$', re.MULTILINE)
 

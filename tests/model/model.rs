@@ -1,16 +1,18 @@
 //! Document 01 once more, in plain Rust: a second reading to hold the proved program against.
 //!
 //! Written from document 01 alone (open points as docs/DECISIONS.md has them), never from the proved code, and
-//! changed by what is requested later: Q-2, what zeroes the count of a connected port; Q-14, the sum of differences.
-//! `chip` is the state machine and does no input or output; `reached` says what a trace has exercised;
-//! `paper` holds the tests, whose expected values stand in document 01, in Q-2 or in Q-14. Build with `rustc -O`.
+//! changed by what is requested later: Q-2, what zeroes the count of a connected port; Q-6, the short event limit is
+//! given at power-up; Q-14, the sum of differences. `chip` is the state machine and does no input or output; `reached`
+//! says what a trace has exercised; `paper` holds the tests, whose expected values stand in document 01, in Q-2, in Q-6
+//! or in Q-14. Build with `rustc -O`.
 //!
 //!     model [--reached] [START] < TRACE
 //!     model --export ATTRIBUTE [START] < TRACE
 //!     model --credits [START] < TRACE
 //!     model --totals < READINGS
 //!
-//! START: the counters and addresses at power-up, all zero without it (docs/REFERENCE.md, 'Start files').
+//! START: the counters and addresses at power-up, all zero without it, and perhaps the short event limit, 78 where
+//! it says none (docs/REFERENCE.md, 'Start files'). A limit that is refused brings a line on standard error alone.
 //! `--reached`: a line 'reached NAME TIMES' on standard error for each thing that a trace can reach, at the end.
 //! `--export`: no answers, but the counters that the trace leaves, as CSV. ATTRIBUTE is a register number or `all`.
 //! `--credits`: no answers, but the true number of credits of each counter since power-up, a line each.
@@ -24,7 +26,10 @@ pub mod chip {
 
     pub const RECORD: usize = 32;
     pub const LONGEST_BURST: u32 = 1_000_000;
+    /// The short event limit where nothing is said at power-up, and the least and the largest that there are.
     pub const SHORT_BELOW: u32 = 78;
+    pub const LEAST_LIMIT: u32 = 75;
+    pub const LARGEST_LIMIT: u32 = 81;
     pub const SMALLEST_FRAME: u32 = 64;
     pub const LARGEST_FRAME: u32 = 1518;
     pub const LATE_ABOVE: u32 = 512;
@@ -360,6 +365,8 @@ pub mod chip {
         pub loopback_error: bool,
         pub mjlp: bool,
         pub attributes: Attributes,
+        /// the short event limit: as power-up was given it, for good
+        pub short_below: u32,
         pub changes: [u8; 8],
         pub enables: [u8; 8],
         pub interface_error: bool,
@@ -397,7 +404,16 @@ pub mod chip {
     }
 
     impl Chip {
-        pub fn power_up(attributes: Attributes) -> Chip {
+        /// A chip at power-up, or 13 and none.
+        pub fn power_up(attributes: Attributes, limit: u32) -> Result<Chip, u8> {
+            if limit < LEAST_LIMIT || limit > LARGEST_LIMIT {
+                return Err(13);
+            }
+            Ok(Chip::fresh(attributes, limit))
+        }
+
+        /// What power-up and a reset leave, over what survives a reset.
+        pub fn fresh(attributes: Attributes, short_below: u32) -> Chip {
             let twisted = Port {
                 enabled: true,
                 connected: true,
@@ -419,6 +435,7 @@ pub mod chip {
                 loopback_error: false,
                 mjlp: false,
                 attributes,
+                short_below,
                 changes: [0; 8],
                 enables: [0; 8],
                 interface_error: false,
@@ -439,7 +456,7 @@ pub mod chip {
                 Ok(Record::CRead) => self.c_read(),
                 Ok(Record::DRead) => self.d_read(),
                 Ok(Record::Reset) => {
-                    *self = Chip::power_up(self.attributes);
+                    *self = Chip::fresh(self.attributes, self.short_below);
                     Answer::Done
                 }
             }
@@ -545,7 +562,7 @@ pub mod chip {
         }
 
         fn credit_single(&mut self, b: &Burst, port: usize) {
-            let class = if b.d < SHORT_BELOW {
+            let class = if b.d < self.short_below {
                 SHORT_EVENTS
             } else if b.n < SMALLEST_FRAME {
                 RUNTS
@@ -901,12 +918,25 @@ pub mod chip {
     // ---- the start file and the printed line
 
     pub const START_BYTES: usize = PORTS * (4 * COUNTERS + 6) + 8;
+    /// With the limit's four bytes, and one that is zero.
+    pub const LONG_START_BYTES: usize = START_BYTES + 5;
 
-    /// The attributes that a start file holds, if it has the right size.
-    pub fn start_of(bytes: &[u8]) -> Option<Attributes> {
-        if bytes.len() != START_BYTES {
-            return None;
-        }
+    /// What a start file gives to power-up.
+    #[derive(Clone, Copy, PartialEq, Eq, Debug)]
+    pub struct Start {
+        pub attributes: Attributes,
+        pub limit: u32,
+    }
+
+    pub const NOTHING: Start = Start { attributes: ZERO, limit: SHORT_BELOW };
+
+    /// What a start file holds, if it has one of the two forms.
+    pub fn start_of(bytes: &[u8]) -> Option<Start> {
+        let limit = match bytes.len() {
+            START_BYTES => SHORT_BELOW,
+            LONG_START_BYTES if bytes[START_BYTES + 4] == 0 => number(bytes, START_BYTES),
+            _ => return None,
+        };
         let mut attributes = ZERO;
         let mut at = 0;
         for port in attributes.ports.iter_mut() {
@@ -919,7 +949,7 @@ pub mod chip {
         }
         attributes.transmit_collisions = number(bytes, at);
         attributes.total_octets = number(bytes, at + 4);
-        Some(attributes)
+        Some(Start { attributes, limit })
     }
 
     fn decimal(mut number: u64, line: &mut Vec<u8>) {
@@ -979,6 +1009,8 @@ pub mod reached {
         times: HashMap<String, u64>,
         /// Which ports had a short clean burst since their count was last 0.
         after_short: [bool; PORTS],
+        /// Whether there was a reset.
+        after_reset: bool,
     }
 
     const ENABLED_REGISTERS: [usize; 7] = [0, 1, 2, 3, 4, 6, 7];
@@ -999,7 +1031,8 @@ pub mod reached {
     impl Reached {
         /// Every name, with nothing reached yet.
         pub fn new() -> Reached {
-            let mut reached = Reached { times: HashMap::new(), after_short: [false; PORTS] };
+            let mut reached =
+                Reached { times: HashMap::new(), after_short: [false; PORTS], after_reset: false };
             for name in names() {
                 reached.times.insert(name, 0);
             }
@@ -1025,6 +1058,18 @@ pub mod reached {
                 self.times.iter().map(|(name, times)| format!("reached {name} {times}\n")).collect();
             lines.sort();
             lines.concat()
+        }
+
+        /// A power-up that was refused for its short event limit.
+        pub fn no_power_up(&mut self, limit: u32) {
+            let within = |limit: u32| (LEAST_LIMIT..=LARGEST_LIMIT).contains(&limit);
+            self.note("refusal.13");
+            self.note_if(limit == 0, "refusal.13.zero");
+            self.note_if(limit == 74, "refusal.13.limit74");
+            self.note_if(limit == 82, "refusal.13.limit82");
+            self.note_if(within(limit & 0xff), "refusal.13.past8bits");
+            self.note_if(within(limit & 0xffff), "refusal.13.past16bits");
+            self.note_if(limit == u32::MAX, "refusal.13.largest");
         }
 
         pub fn record(&mut self, before: &Chip, bytes: &[u8], answer: Answer, after: &Chip) {
@@ -1148,7 +1193,7 @@ pub mod reached {
             let scene = before.scene(b);
             let ones = scene.heard.count_ones();
             self.words(before, b, &scene);
-            self.edges(b, &scene);
+            self.edges(before.short_below, b, &scene);
             self.note(format_args!("heard.{ones}"));
             for place in 0..PORTS {
                 self.credited(before, after, place);
@@ -1217,13 +1262,19 @@ pub mod reached {
             );
         }
 
-        fn edges(&mut self, b: &Burst, scene: &Scene) {
+        fn edges(&mut self, limit: u32, b: &Burst, scene: &Scene) {
             let single = scene.heard.count_ones() == 1 && !scene.collision;
             let bad = if b.fcs_bad { "bad" } else { "good" };
             let dribble = if b.k > 0 { "dribble" } else { "whole" };
-            self.note_if(single && matches!(b.d, 77 | 78), format_args!("edge.d{}.short", b.d.min(99)));
-            self.note_if(single && b.d == 78 && b.n == 9, "edge.d78.n9");
-            if single && b.d >= SHORT_BELOW && matches!(b.n, 63 | 64 | 1518 | 1519) {
+            if single && (b.d + 1 == limit || b.d == limit) {
+                self.note(format_args!("edge.limit{limit}.d{}", b.d));
+            }
+            self.note_if(single && limit == 78 && b.d == 78 && b.n == 9, "edge.d78.n9");
+            let between = limit.min(SHORT_BELOW)..limit.max(SHORT_BELOW);
+            if single && self.after_reset && between.contains(&b.d) {
+                self.note(format_args!("reset.limit{limit}.between"));
+            }
+            if single && b.d >= limit && matches!(b.n, 63 | 64 | 1518 | 1519) {
                 self.note(format_args!("edge.n{}.{bad}.{dribble}", b.n));
             }
             let rate = single && b.rate_error;
@@ -1491,7 +1542,8 @@ pub mod reached {
         }
 
         fn reset(&mut self, before: &Chip) {
-            let fresh = Chip::power_up(before.attributes);
+            let fresh = Chip::fresh(before.attributes, before.short_below);
+            self.after_reset = true;
             let twisted = || (0..TWISTED).map(|place| before.ports[place]);
             let facts = [
                 ("partitioned", before.ports.iter().any(|port| !port.connected)),
@@ -1570,6 +1622,13 @@ pub mod reached {
                 add(format!("write.p2.r{r}.dropped"));
             }
         }
+        for limit in LEAST_LIMIT..=LARGEST_LIMIT {
+            add(format!("edge.limit{limit}.d{}", limit - 1));
+            add(format!("edge.limit{limit}.d{limit}"));
+            if limit != SHORT_BELOW {
+                add(format!("reset.limit{limit}.between"));
+            }
+        }
         (0..COUNTERS).for_each(|r| add(format!("wrap.r{r}")));
         (0..=PORTS).for_each(|ones| add(format!("heard.{ones}")));
         (1..RECORD).for_each(|length| add(format!("length.{length}")));
@@ -1624,7 +1683,7 @@ pub mod reached {
         jam.aui.signal jam.no_output rep.aui rep.no_output rep.aui_partitioned_signal rep.partitioned_active
         nil.disabled nil.failed nil.partitioned nil.several_clean nil.aui_partitioned_signal
         signal.alone signal.aui_disabled
-        edge.d77.short edge.d78.short edge.d78.n9 edge.d552.mismatch edge.d553.mismatch
+        edge.d78.n9 edge.d552.mismatch edge.d553.mismatch
         edge.mismatch.others_collide edge.mismatch.collision edge.c512.late edge.c513.late edge.late.single
         edge.d65536.very_long edge.d65537.very_long edge.very_long.collision edge.d1 edge.d1000000 edge.k7
         edge.octets.all edge.collision.all edge.x1024 edge.x1025 edge.count31 edge.count31.cleared.sent
@@ -1651,6 +1710,8 @@ pub mod reached {
         between.burst between.pulse between.tick between.c_read between.refusal1 between.refusal2 between.refusal3
         between.refusal6 between.refusal7 between.refusal8 between.refusal9
         refusal.1 refusal.2 refusal.3 refusal.4 refusal.5 refusal.6 refusal.7 refusal.8 refusal.9
+        refusal.13 refusal.13.zero refusal.13.limit74 refusal.13.limit82 refusal.13.past8bits refusal.13.past16bits
+        refusal.13.largest
         refusal.4.S refusal.4.G refusal.5.kind5 refusal.5.kind7 refusal.6.kind5 refusal.6.kind7
         zero.kind zero.flag5 zero.flag6 zero.flag7
         range.d.zero range.d.above range.d.1000001 range.k range.k.8 range.octets range.octets.by1
@@ -1694,6 +1755,20 @@ pub mod program {
             output.write_all(&self.lines)?;
             self.lines.clear();
             output.flush()
+        }
+    }
+
+    /// The chip of a start file, or a line on standard error that says why there is none.
+    fn powered(who: &str, start: Start) -> Option<Chip> {
+        match Chip::power_up(start.attributes, start.limit) {
+            Ok(chip) => Some(chip),
+            Err(number) => {
+                let limit = start.limit;
+                eprintln!(
+                    "{who}: short event limit {limit} is outside {LEAST_LIMIT} to {LARGEST_LIMIT} (refused {number})"
+                );
+                None
+            }
         }
     }
 
@@ -1745,9 +1820,9 @@ pub mod program {
     }
 
     /// The counters that a trace leaves: a line for each of these registers, with a value for each port.
-    pub fn export(start: Attributes, registers: std::ops::Range<usize>) -> io::Result<()> {
+    pub fn export(start: Start, registers: std::ops::Range<usize>) -> io::Result<()> {
+        let Some(mut chip) = powered("export", start) else { return Ok(()) };
         let mut input = io::stdin().lock();
-        let mut chip = Chip::power_up(start);
         let mut refused: u64 = 0;
         let mut buffer = vec![0; 1 << 16];
         loop {
@@ -1778,12 +1853,13 @@ pub mod program {
     }
 
     /// The true number of credits of each counter since power-up, in the order and the words of a start file.
-    pub fn credits(start: Attributes) -> io::Result<()> {
-        let mut input = io::stdin().lock();
-        let mut chip = Chip::power_up(ZERO);
-        for (port, given) in chip.attributes.ports.iter_mut().zip(start.ports) {
+    pub fn credits(start: Start) -> io::Result<()> {
+        let mut attributes = ZERO;
+        for (port, given) in attributes.ports.iter_mut().zip(start.attributes.ports) {
             port.address = given.address;
         }
+        let Some(mut chip) = powered("credits", Start { attributes, ..start }) else { return Ok(()) };
+        let mut input = io::stdin().lock();
         let mut credits = Credits::NONE;
         let mut buffer = vec![0; 1 << 16];
         loop {
@@ -1835,11 +1911,20 @@ pub mod program {
         Ok(())
     }
 
-    pub fn run(start: Attributes, with_reached: bool) -> io::Result<()> {
+    pub fn run(start: Start, with_reached: bool) -> io::Result<()> {
+        let mut reached = if with_reached { Some(Reached::new()) } else { None };
+        let Some(chip) = powered("run", start) else {
+            return match &mut reached {
+                Some(reached) => {
+                    reached.no_power_up(start.limit);
+                    io::stderr().write_all(reached.lines().as_bytes())
+                }
+                None => Ok(()),
+            };
+        };
         let mut input = io::stdin().lock();
         let mut output = io::stdout().lock();
-        let reached = if with_reached { Some(Reached::new()) } else { None };
-        let mut run = Run { chip: Chip::power_up(start), number: 0, reached, lines: Vec::new() };
+        let mut run = Run { chip, number: 0, reached, lines: Vec::new() };
         let mut buffer = vec![0; 1 << 16];
         let mut kept = 0;
         loop {
@@ -1869,10 +1954,12 @@ pub mod program {
     }
 }
 
-fn start_file(path: &str) -> Result<chip::Attributes, String> {
+fn start_file(path: &str) -> Result<chip::Start, String> {
     let bytes = std::fs::read(path).map_err(|error| format!("start file {path}: {error}"))?;
-    chip::start_of(&bytes)
-        .ok_or_else(|| format!("start file {path}: {} bytes, not {}", bytes.len(), chip::START_BYTES))
+    chip::start_of(&bytes).ok_or_else(|| {
+        let (short, long) = (chip::START_BYTES, chip::LONG_START_BYTES);
+        format!("start file {path}: {} bytes, not {short}, or {long} with a 0 at the end", bytes.len())
+    })
 }
 
 /// The registers that a word names: one, or all.
@@ -1889,7 +1976,7 @@ fn started() -> Result<(), String> {
     let mut reached = false;
     let mut export = None;
     let mut credits = false;
-    let mut start = chip::ZERO;
+    let mut start = chip::NOTHING;
     let mut files = 0;
     let mut words = std::env::args().skip(1);
     while let Some(word) = words.next() {
@@ -1924,7 +2011,8 @@ fn main() {
     }
 }
 
-/// Expected values here stand in document 01, those of the kept count in Q-2, those of sums in Q-14; none comes from a run.
+/// Expected values here stand in document 01, those of the kept count in Q-2, those of the short event limit in Q-6, those
+/// of sums in Q-14; none comes from a run.
 #[cfg(test)]
 mod paper {
     use super::chip::*;
@@ -1975,12 +2063,20 @@ mod paper {
         bytes
     }
 
-    fn all_passing() -> Chip {
-        let mut chip = Chip::power_up(ZERO);
+    fn powered(attributes: Attributes) -> Chip {
+        Chip::power_up(attributes, 78).unwrap()
+    }
+
+    fn all_passing_at(limit: u32) -> Chip {
+        let mut chip = Chip::power_up(ZERO, limit).unwrap();
         for _ in 0..4 {
             assert_eq!(chip.step(&pulse(0xff)), Answer::Done);
         }
         chip
+    }
+
+    fn all_passing() -> Chip {
+        all_passing_at(78)
     }
 
     fn counters(chip: &Chip, port: usize) -> [u32; COUNTERS] {
@@ -1998,7 +2094,7 @@ mod paper {
         let mut tick = record(3);
         tick[2] = 1;
         records.push(tick);
-        let mut chip = Chip::power_up(ZERO);
+        let mut chip = powered(ZERO);
         let mut lines = Vec::new();
         for (place, bytes) in records.iter().enumerate() {
             let answer = chip.step(bytes);
@@ -2030,6 +2126,80 @@ mod paper {
                 expected[READABLE_OCTETS] = n;
             }
             assert_eq!(counters(&chip, 2), expected, "d {d}, n {n}, FCS bad {fcs_bad}, k {k}");
+        }
+    }
+
+    fn short_and_runts(chip: &Chip, port: usize) -> (u32, u32) {
+        (counters(chip, port)[SHORT_EVENTS], counters(chip, port)[RUNTS])
+    }
+
+    // The row 'd 77 short; 78, n 9 runt' at each limit, for TP0 and AUI.
+    #[test]
+    fn below_the_limit_is_a_short_event_and_at_it_a_runt() {
+        for limit in [75, 76, 77, 78, 79, 80, 81] {
+            for (mask, port) in [(1, 0), (0x100, AUI)] {
+                let mut chip = all_passing_at(limit);
+                chip.step(&frame(mask, limit - 1, 9, false, 0));
+                assert_eq!(short_and_runts(&chip, port), (1, 0), "limit {limit}, d {}", limit - 1);
+                chip.step(&frame(mask, limit, 9, false, 0));
+                assert_eq!(short_and_runts(&chip, port), (1, 1), "limit {limit}, d {limit}");
+            }
+        }
+    }
+
+    #[test]
+    fn a_reset_keeps_the_limit() {
+        for (limit, d, due) in [(77, 77, (0, 2)), (75, 75, (0, 2)), (81, 80, (2, 0)), (79, 78, (2, 0))] {
+            let mut chip = all_passing_at(limit);
+            chip.step(&frame(1, d, 9, false, 0));
+            assert_eq!(chip.step(&record(8)), Answer::Done);
+            for _ in 0..4 {
+                chip.step(&pulse(1));
+            }
+            chip.step(&frame(1, d, 9, false, 0));
+            assert_eq!(short_and_runts(&chip, 0), due, "limit {limit}, d {d}");
+        }
+    }
+
+    #[test]
+    fn nothing_else_hangs_on_the_limit() {
+        for limit in [75, 78, 81] {
+            let mut chip = all_passing_at(limit);
+            chip.step(&frame(1, 13_000, 63, false, 0));
+            chip.step(&frame(1, 13_000, 64, false, 0));
+            let mut due = [0; COUNTERS];
+            (due[RUNTS], due[READABLE_FRAMES], due[READABLE_OCTETS]) = (1, 1, 64);
+            assert_eq!(counters(&chip, 0), due, "limit {limit}");
+            assert_eq!(chip.step(&collision(6, 76, 0, 1)), Answer::Burst(Word::Jam, 0x1ff));
+            assert_eq!(short_and_runts(&chip, 1), (0, 0), "limit {limit}");
+        }
+    }
+
+    #[test]
+    fn a_limit_outside_75_to_81_is_refused_with_13() {
+        for limit in [0, 74, 82, 256 + 78, 4_294_967_295] {
+            assert_eq!(Chip::power_up(ZERO, limit), Err(13), "limit {limit}");
+        }
+        for limit in [75, 81] {
+            assert!(Chip::power_up(ZERO, limit).is_ok(), "limit {limit}");
+        }
+    }
+
+    #[test]
+    fn a_start_file_has_530_bytes_or_535() {
+        let mut bytes = vec![0; 535];
+        bytes[526] = 9;
+        let attributes = Attributes { total_octets: 9, ..ZERO };
+        assert_eq!(start_of(&bytes[..530]), Some(Start { attributes, limit: 78 }));
+        assert_eq!(start_of(&bytes), Some(Start { attributes, limit: 0 }));
+        for limit in [75, 256 + 78, 4_294_967_295] {
+            bytes[530..534].copy_from_slice(&u32::to_le_bytes(limit));
+            assert_eq!(start_of(&bytes), Some(Start { attributes, limit }));
+        }
+        bytes[534] = 1;
+        assert_eq!(start_of(&bytes), None);
+        for size in [0, 529, 531, 534, 536] {
+            assert_eq!(start_of(&vec![0; size]), None, "{size} bytes");
         }
     }
 
@@ -2176,7 +2346,7 @@ mod paper {
 
     #[test]
     fn credits_go_on_where_counters_wrap() {
-        let mut chip = Chip::power_up(ZERO);
+        let mut chip = powered(ZERO);
         let mut credits = Credits { total_octets: 4_294_967_295, ..Credits::NONE };
         for _ in 0..2 {
             chip.step(&frame(0x100, 1000, 64, false, 0));
@@ -2254,17 +2424,17 @@ mod paper {
     fn the_first_refusal_in_order_is_given() {
         let mut bytes = burst(0x200, 0);
         bytes[14] = 1;
-        assert_eq!(Chip::power_up(ZERO).step(&bytes), Answer::Refused(8));
-        assert_eq!(Chip::power_up(ZERO).step(&burst(0x200, 0)), Answer::Refused(3));
-        assert_eq!(Chip::power_up(ZERO).step(&burst(0, 0)), Answer::Refused(2));
-        assert_eq!(Chip::power_up(ZERO).step(&burst(0, 1)), Answer::Refused(1));
+        assert_eq!(powered(ZERO).step(&bytes), Answer::Refused(8));
+        assert_eq!(powered(ZERO).step(&burst(0x200, 0)), Answer::Refused(3));
+        assert_eq!(powered(ZERO).step(&burst(0, 0)), Answer::Refused(2));
+        assert_eq!(powered(ZERO).step(&burst(0, 1)), Answer::Refused(1));
     }
 
     #[test]
     fn four_bytes_come_from_one_copy() {
         let mut start = ZERO;
         start.total_octets = 0xffff_fff0;
-        let mut chip = Chip::power_up(start);
+        let mut chip = powered(start);
         chip.step(&written(4, 0x00));
         chip.step(&written(4, 0xed));
         assert_eq!(chip.step(&record(7)), Answer::Value(0xf0));
