@@ -6,7 +6,7 @@
 --   parted-as       == a record reads one of them exactly if its deed does
 --   repeaters-same, lists-same == the repeaters; lists of change bits and enables
 --   limit-is-alone  == the statement
-use Prim.Native.Nat.{ℕ, _+_, _*_, _/_, _%_, _^_, _≤_, _<_}
+use Prim.Native.Nat.{ℕ, _+_, _/_, _%_, _^_, _≤_, _<_}
 use mathlib.Core.Path.{_≡_, refl, sym, ap, ap₂, _∙_}
 use mathlib.Core.Bool.{Bool, true, false, cond, not, _&&_, _||_, true≢false}
 use mathlib.Core.List.{List, [], _∷_}
@@ -21,41 +21,38 @@ use Rattle.management.specs.declared.Command.{Command}
 use Rattle.management.specs.declared.Command.the-variants.{Set, Get, Unlisted}
 use Rattle.management.specs.Commands.{commandOf}
 use Rattle.record.specs.declared.Burst.{Burst}
-use Rattle.record.specs.declared.Access.{Access}
 use Rattle.record.specs.declared.Access.the-variants.{WriteC, WriteD, ReadC, ReadD}
 use Rattle.record.specs.declared.Asked.{Asked}
 use Rattle.record.specs.declared.Asked.the-variants as ask
 use Rattle.record.specs.Record.{dReadKind}
 use Rattle.record.specs.Refusals.{recordOf}
 use Rattle.record.specs.Accepted.{kindNumber}
-use Rattle.repeater.specs.declared.Repeater.{Repeater}
 use Rattle.host.specs.declared.Register.{Register}
 use Rattle.host.specs.declared.Register.the-variants as reg
 use Rattle.host.specs.declared.Role.{Role}
 use Rattle.host.specs.declared.Role.the-variants.{Plain, Cleared, Commands, Enables, Address}
 use Rattle.host.specs.declared.Row.{Row}
 use Rattle.host.specs.Map.{rowAt}
-use Rattle.answer.specs.declared.Answer.{Answer}
 use Rattle.attributes.specs.Credits.{shortTo}
 use Rattle.chip.specs.declared.Choices.{Choices}
 use Rattle.chip.specs.declared.Core.{Core}
 use Rattle.chip.specs.declared.Supply.{Supply}
-use Rattle.chip.specs.Chip.{withChoices, withKept}
+use Rattle.chip.specs.Chip.{limitedTo, withChoices, withKept}
 use Rattle.chip.proofs.ChipLaws.{Seven, seven-fits, settled-fit, settled-in}
 use Rattle.himib.specs.Runs as Runs
 use Rattle.himib.specs.Runs.{Point, happening, accepted, runOf, repeaterAt, counterAt, limitAt}
-use Rattle.pass.specs.Limit.{limitedTo, withLimit}
+use Rattle.pass.specs.Limit.{withLimit}
 use Rattle.past.specs.Deeds.{Deed, bursts, pulses, ticks, commands, uses, resets, refused, Use, selectsP, selectsR, allows, addresses, asks, reads}
-use Rattle.past.specs.Deeds.{ifUse, selecting, commanding, writing, writingTo, readingOf, deedOf, pageBy, registerBy, deedAfter, deedsFrom}
+use Rattle.past.specs.Deeds.{ifUse, selecting, commanding, writing, deedOf, pageBy, registerBy, deedAfter, deedsFrom}
 use Rattle.past.specs.Credits.{alone, if, creditOf, sumBy}
 use Rattle.past.specs.Addresses.{creditBy, counterBy}
 use Rattle.past.specs.Reads.{Start, byteBy, placeBy, copiedBy, readBy}
 use Rattle.past.specs.Answers.{answerBy}
 use Rattle.alone.specs.Doing.{repeaterBy, Proper}
-use Rattle.alone.specs.Seen.{startOf, Noticed}
+use Rattle.alone.specs.Seen.{startOf}
 use Rattle.alone.specs.Judged.{happens, run}
 use Rattle.alone.specs.Alone.{pastOf, after, Supplied}
-use Rattle.alone.specs.Limit.{byLimit, limitParts, readsParted, IsByte, SameBut, LimitIsAlone}
+use Rattle.alone.specs.Limit.{byLimit, limitParts, readsParted, IsByte, LimitIsAlone}
 use Rattle.alone.proofs.Instances
 use Rattle.alone.proofs.Did.{proper-deed, repeater-next}
 use Rattle.alone.proofs.Credits.{Measured}
@@ -408,6 +405,7 @@ module _ (given : Supply) (s : Supplied given) (rs : List (List ℕ)) where
         (sums-same (startOf given .addresses) i (settled l) (settled m) (settled-low l) (settled-low m) [] rs refl)
         ∙ sym (folded _ _ _ _ _ _ (w .counters i 5 h (omega arith)) (w .counters i 6 h (omega arith)))
 
+-- its instance: zero-supplied, runt-shown, short-shown and cores-shown of Instances
 pub limit-is-alone : LimitIsAlone
 limit-is-alone given s l m rs = record {
   answers = answers given s rs l m;

@@ -16,7 +16,7 @@ use Rattle.answer.specs.declared.Answer.{Answer}
 use Rattle.answer.specs.declared.Answer.the-variants.{Value}
 use Rattle.answer.specs.Answer.{byteOf}
 use Rattle.chip.specs.declared.Supply.{Supply}
-use Rattle.chip.specs.Chip.{withChoices, withKept}
+use Rattle.chip.specs.Chip.{limitedTo, withChoices, withKept}
 use Rattle.himib.specs.Runs.{Point, reads, counterAt, addressAt, limitAt}
 use Rattle.pass.specs.Pass.{registerOf}
 use Rattle.pass.specs.Limit.{Seven, withLimit}
@@ -50,8 +50,8 @@ pub record SameBut (l m : ℕ) (p q : Point) : Type 0 where
   -- the next record, whatever it is: the same answer, unless it reads one of the two counters; and then a byte in both runs
   pub answers : (r : List ℕ) → readsParted p r ≡ false → happens p r .answer ≡ happens q r .answer
   pub bytes : (r : List ℕ) → readsParted p r ≡ true → IsByte (happens p r .answer) × IsByte (happens q r .answer)
-  -- repeater, change bits, enables, both totals, interface error and G
-  pub core : q .chip .core ≡ withKept (p .chip .core) (withChoices (p .chip .core .kept) (q .chip .core .kept .choices))
+  -- but for the limit: repeater, change bits, enables, both totals, interface error and G
+  pub core : q .chip .core ≡ withKept (p .chip .core) (withChoices (p .chip .core .kept) (limitedTo (limitAt q) (p .chip .core .kept .choices)))
   -- every other counter, and every address
   pub counters : (i r : ℕ) → i < 9 → r < 13 → byLimit r ≡ false → counterAt i r p ≡ counterAt i r q
   pub addresses : (i : ℕ) → i < 9 → addressAt i p ≡ addressAt i q

@@ -1,4 +1,4 @@
--- The cases of the chip's definitions, as the code asks them, and what is chosen at power-up. Assumes nothing.
+-- The cases of the chip's definitions, as the code asks them, and what is chosen at power-up. The tables are computed first. Assumes nothing.
 --   moved-still     == where no port's partition state changed
 --   fits-seven, seven-fits == a limit fits exactly if it is one of the seven
 --   refusal-fit, refusal-other, settled-fit, settled-other == what power-up makes of it
@@ -17,6 +17,7 @@ use Rattle.attributes.specs.Credits.{shortFrom, shortTo}
 use Rattle.chip.specs.declared.Core.{Core}
 use Rattle.chip.specs.declared.Choices.{Choices}
 use Rattle.chip.specs.Chip.{usual, limitRefused, fits, refusalOf, settledOf, movedBy, moved}
+use Rattle.chip.proofs.Sheet
 
 -- where no port's partition state changed
 pub moved-still : (c : Core) (q : Repeater) (loopback sqe : Bool) (address : ℕ) → partitionedOf q ≡ partitionedOf (c .repeater)

@@ -1,5 +1,6 @@
 -- Document 01, 'Reset and power-up', and the state of the two chips: the core (repeater, change bits, enables, what a reset keeps, interface error, G) and
 -- the nine ports' attributes. Builders say 'this part anew, the rest as it was'.
+--   usual, limitedTo  == what is chosen where nothing is said; the same choices with another limit
 --   refusalOf choices == 0, or the number that power-up turns these choices away with
 --   settledOf choices == what the chip goes by: what was chosen, or next to a refusal what is usual
 --   coreUp k, chipUp given == at power-up, with what it is given; poweredUp given == with the number beside it
@@ -27,6 +28,10 @@ use Rattle.chip.specs.declared.Powered.{Powered}
 
 abbrev pub usual : Choices
 usual = record { «short_limit» = shortBelow }
+
+-- another limit, and every other choice as it was: one that is added is added here
+abbrev pub limitedTo : ℕ → Choices → Choices
+limitedTo limit choices = record { «short_limit» = limit }
 
 -- a limit of short events that is none of the seven
 abbrev pub limitRefused : ℕ

@@ -32,7 +32,7 @@ use Rattle.attributes.specs.Nine.{allCounters, counterOf, addressOf, Proper}
 use Rattle.attributes.specs.Credits.{shortBelow}
 use Rattle.chip.specs.declared.Supply.{Supply}
 use Rattle.chip.specs.declared.Chip.{Chip}
-use Rattle.chip.specs.Chip.{chipUp}
+use Rattle.chip.specs.Chip.{usual, limitedTo, chipUp}
 use Rattle.himib.specs.declared.Stepped.{Stepped}
 use Rattle.himib.specs.Step.{stepOf}
 
@@ -92,7 +92,7 @@ pub record Given (given : Supply) : Type 0 where
 abbrev pub allWith : ℕ → ℕ → Supply
 allWith limit v = record {
   attributes = allCounters v;
-  kept = record { «transmit_collisions» = v; «total_octets» = v; choices = record { «short_limit» = limit } };
+  kept = record { «transmit_collisions» = v; «total_octets» = v; choices = limitedTo limit usual };
 }
 
 abbrev pub allAt : ℕ → Supply

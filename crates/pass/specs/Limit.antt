@@ -1,7 +1,7 @@
 -- Demand 2, request Q-6: the short event limit is chosen at power-up, 75 to 81 bit times. A burst of fewer is a short event, from power-up to the end of the run and
 -- over every reset; and power-up turns any other limit away.
 --   Seven l          == l is one of the seven limits
---   limitOf given    == the limit that power-up is given; limitedTo, withLimit == the same power-up with another limit
+--   limitOf given    == the limit that power-up is given; withLimit given l == the same power-up with another limit
 --   Answered given   == what power-up answers: 0 and a chip with the limit, or 13 and a chip with 78 that nobody runs
 --   HeardAlone h b i == the record of h is the burst b, accepted, heard at port i alone and without collision
 --   Judges l h b i   == it is counted in Short Events (R 5) if it lasts fewer bit times than l, and not otherwise; at l itself it is a runt (R 6)
@@ -14,9 +14,8 @@ use mathlib.Core.List.{List}
 use Rattle.history.specs.Exactly.{Exactly}
 use Rattle.record.specs.declared.Burst.{Burst}
 use Rattle.record.specs.declared.Asked.the-variants as ask
-use Rattle.chip.specs.declared.Choices.{Choices}
 use Rattle.chip.specs.declared.Supply.{Supply}
-use Rattle.chip.specs.Chip.{withChoices, poweredUp}
+use Rattle.chip.specs.Chip.{limitedTo, withChoices, poweredUp}
 use Rattle.himib.specs.Runs.{Happening, start, Given, asked, counterAt, limitAt}
 use Rattle.pass.specs.Judged.{happens, run}
 use Rattle.pass.specs.Pass.{burstAt}
@@ -26,10 +25,6 @@ Seven l = (75 ≤ l) × (l ≤ 81)
 
 abbrev pub limitOf : Supply → ℕ
 limitOf given = given .kept .choices .«short_limit»
-
--- every other choice as it was: one that is added is added here
-abbrev pub limitedTo : ℕ → Choices → Choices
-limitedTo l choices = record { «short_limit» = l }
 
 abbrev pub withLimit : Supply → ℕ → Supply
 withLimit given l = record { attributes = given .attributes; kept = withChoices (given .kept) (limitedTo l (given .kept .choices)) }

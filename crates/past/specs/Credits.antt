@@ -20,8 +20,8 @@ use Rattle.past.specs.Bursts.{one, more, crash}
 use Rattle.past.specs.Partition.{heardBy, partitionedBy}
 
 -- the six classes, each by its own conditions. The limit stands in the first two alone. A burst with 64 octets or more lasts 512 bit times or more, so no
--- limit can make it a short event, and the other four are told by octets, FCS and dribble bits. Of all that the past says only the counters R 5 and R 6
--- have to do with the limit: what takes it as an argument is `creditOf`, and for these two what is made of it, up to the bytes that a host reads.
+-- limit up to 81 makes it a short event: the other four are told by octets, FCS and dribble bits. So of all that the past says R 5 and R 6 alone depend on
+-- the limit. It is handed down from the bytes that a host reads through `counterBy` and `creditBy` to `creditOf`, and nothing else is given it.
 abbrev pub short : ℕ → Burst → Bool
 short limit b = ltb (b .d) limit
 
