@@ -33,7 +33,7 @@ from tools import build
 
 MAP, PASS, PLANTED, README = TOP / 'docs' / 'MAP.md', TOP / 'docs' / 'PASS.md', TOP / 'docs' / 'RULES.md', TOP / 'README.md'
 NOTES = TOP / 'docs' / 'changes'
-STATEMENTS = [TOP / 'crates' / crate / 'specs' / f'{name}.antt' for crate, name in (('pass', 'Pass'), ('pass', 'HostPast'), ('pass', 'Totals'), ('alone', 'Alone'))]
+STATEMENTS = [TOP / 'crates' / crate / 'specs' / f'{name}.antt' for crate, name in (('pass', 'Pass'), ('pass', 'HostPast'), ('pass', 'Totals'), ('pass', 'Limit'), ('alone', 'Alone'), ('alone', 'Limit'))]
 KEYS = ['demand', 'sentence', 'section', 'statement', 'theorem', 'instance', 'edits', 'says not']
 UNFINISHED = re.compile(r'PENDING|@[A-Z]+@')  # words that hold the place of what is still to be told
 GONE = 'before'

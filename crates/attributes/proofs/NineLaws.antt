@@ -30,7 +30,7 @@ use Rattle.attributes.specs.declared.Share.{Share}
 use Rattle.attributes.specs.Nine.{readableFrames, readableOctets, addressChanges, counterCount, noAttributes, allAlike, allCounters, nothingCounted}
 use Rattle.attributes.specs.Nine.{portOf}
 use Rattle.attributes.specs.Nine.{counterOf, addressOf, withPort, withAddress, readdressed, Proper}
-use Rattle.attributes.specs.Credits.{shortBelow, shortest, longest, classOf, sameAddress, classPort, framed, changedBy, dueOf, shareOf, one, inClass}
+use Rattle.attributes.specs.Credits.{shortest, longest, classOf, sameAddress, classPort, framed, changedBy, dueOf, shareOf, one, inClass}
 use Rattle.attributes.specs.Credits.{creditFor, creditsOf, creditOf, frameAt, counted, creditedWith, creditedAt, creditedAll, SingleHeard}
 use Rattle.attributes.specs.Credits.{Consistent}
 use Rattle.attributes.specs.OneClass.{here}
@@ -63,7 +63,7 @@ abbrev before : Nine
 before = withPort nothingCounted 1 (record { counters = 4294967295 ∷ replicate 12 0; address = replicate 6 0 })
 
 abbrev alone : Met
-alone = record { heard = 2; single = 1; collision = false; cut = 0; limit = shortBelow }
+alone = record { heard = 2; single = 1; collision = false; cut = 0; limit = 78 }
 
 abbrev after : Nine
 after = creditedAll (dueOf before alone frame sender) frame sender before

@@ -18,7 +18,7 @@ use Rattle.attributes.specs.declared.Nine.{Nine}
 use Rattle.attributes.specs.declared.Met.{Met}
 use Rattle.attributes.specs.declared.Share.{Share}
 use Rattle.attributes.specs.Nine.{readableFrames, readableOctets, fcsErrors, alignmentErrors, framesTooLong, shortEvents, runts, nothingCounted}
-use Rattle.attributes.specs.Credits.{shortBelow, shortest, longest, classOf, classPort, dueOf, shareOf, one, inClass, creditFor, creditsOf}
+use Rattle.attributes.specs.Credits.{shortest, longest, classOf, classPort, dueOf, shareOf, one, inClass, creditFor, creditsOf}
 use Rattle.attributes.specs.Credits.{creditOf}
 use Rattle.attributes.specs.OneClass.{classes, creditsIn, Among, here, later, Falls, short, runt, tooLong, misaligned, faulty, good, OnlyClass}
 
@@ -43,10 +43,10 @@ frame = burst 600 64 false 0
 
 -- the shares in it of a port heard alone, and of one heard with others
 abbrev alone : Share
-alone = record { heard = true; single = true; collision = false; class = classOf shortBelow frame; cut = false; changed = false }
+alone = record { heard = true; single = true; collision = false; class = classOf 78 frame; cut = false; changed = false }
 
 abbrev jammed : Share
-jammed = record { heard = true; single = false; collision = true; class = classOf shortBelow frame; cut = false; changed = false }
+jammed = record { heard = true; single = false; collision = true; class = classOf 78 frame; cut = false; changed = false }
 
 abbrev withClass : Share → ℕ → Share
 withClass share class = record {
@@ -59,14 +59,14 @@ withClass share class = record {
 }
 
 -- Every burst falls in one class, and in no other.
-of-each-class : (classOf shortBelow (burst 77 9 false 0) ≡ shortEvents)
-    × (classOf shortBelow (burst 78 9 false 0) ≡ runts)
-    × (classOf shortBelow (burst 600 63 true 3) ≡ runts)
-    × (classOf shortBelow (burst 13000 1519 true 3) ≡ framesTooLong)
-    × (classOf shortBelow (burst 600 64 true 3) ≡ alignmentErrors)
-    × (classOf shortBelow (burst 600 64 true 0) ≡ fcsErrors)
-    × (classOf shortBelow (burst 13000 1518 false 3) ≡ readableFrames)
-    × (classOf shortBelow frame ≡ readableFrames)
+of-each-class : (classOf 78 (burst 77 9 false 0) ≡ shortEvents)
+    × (classOf 78 (burst 78 9 false 0) ≡ runts)
+    × (classOf 78 (burst 600 63 true 3) ≡ runts)
+    × (classOf 78 (burst 13000 1519 true 3) ≡ framesTooLong)
+    × (classOf 78 (burst 600 64 true 3) ≡ alignmentErrors)
+    × (classOf 78 (burst 600 64 true 0) ≡ fcsErrors)
+    × (classOf 78 (burst 13000 1518 false 3) ≡ readableFrames)
+    × (classOf 78 frame ≡ readableFrames)
 unfolding classOf
 of-each-class = (refl, refl, refl, refl, refl, refl, refl, refl)
 
@@ -219,10 +219,10 @@ octets-fit limit s b k = go (s .single) (eqb (s .class) readableFrames) refl
 
 -- TP0's frame heard alone, and one that AUI alone is heard with beside its collision signal
 abbrev heardAlone : Met
-heardAlone = record { heard = 1; single = 0; collision = false; cut = 0; limit = shortBelow }
+heardAlone = record { heard = 1; single = 0; collision = false; cut = 0; limit = 78 }
 
 abbrev auiSignalled : Met
-auiSignalled = record { heard = 256; single = 8; collision = true; cut = 0; limit = shortBelow }
+auiSignalled = record { heard = 256; single = 8; collision = true; cut = 0; limit = 78 }
 
 abbrev noSource : List ℕ
 noSource = 0 ∷ 0 ∷ 0 ∷ 0 ∷ 0 ∷ 0 ∷ []

@@ -5,7 +5,7 @@
 --   Answered given   == what power-up answers: 0 and a chip with the limit, or 13 and a chip with 78 that nobody runs
 --   HeardAlone h b i == the record of h is the burst b, accepted, heard at port i alone and without collision
 --   Judges l h b i   == it is counted in Short Events (R 5) if it lasts fewer bit times than l, and not otherwise; at l itself it is a runt (R 6)
---   LimitDecides     == so it is of every power-up, and after any records
+--   Decided          == so it is of every power-up, and after any records; LimitDecides == that is the promise
 -- Assumes nothing.
 use Prim.Native.Nat.{ℕ, _+_, _%_, _^_, _≤_, _<_}
 use mathlib.Core.Path.{_≡_}
@@ -53,8 +53,11 @@ pub record Judges (l : ℕ) (h : Happening) (b : Burst) (i : ℕ) : Type 0 where
   pub from : l ≤ b .d → asBefore i 5 h
   pub exactly : b .d ≡ l → onceMore i 6 h
 
-pub record LimitDecides : Type 0 where
+pub record Decided : Type 0 where
   pub answers : (given : Supply) → Answered given
   pub stays : (given : Supply) → Seven (limitOf given) → (rs : List (List ℕ)) → limitAt (run (start given) rs) ≡ limitOf given
   pub judges : (given : Supply) → Given given → Seven (limitOf given) → (before : List (List ℕ)) (r : List ℕ) (b : Burst) (i : ℕ)
       → HeardAlone (happens (run (start given) before) r) b i → Judges (limitOf given) (happens (run (start given) before) r) b i
+
+abbrev pub LimitDecides : Type 0
+LimitDecides = Decided
