@@ -26,10 +26,10 @@ BUFFERS = 2 * 65_536
 # the test prints. With `beside` the first function's frame alone is held, without so many bytes of buffers.
 Figure = namedtuple('Figure', 'what program path beside', defaults=(None,))
 FIGURES = [
-    Figure('the frame that the burst is compiled into, beside its two buffers', 'run', 'run::run_from 7,008', BUFFERS),
-    Figure('the step by itself', 'one_step', 'himib::step 1,616 > access::accept 256'),
+    Figure('the frame that the burst is compiled into, beside its two buffers', 'run', 'run::run_from 6,960', BUFFERS),
+    Figure('the step by itself', 'one_step', 'himib::step 1,632 > access::accept 240'),
     Figure("the repeater's burst by itself", 'every_command', 'repeater::Repeater::burst 208'),
-    Figure('the program', 'run', 'main 17,360 > run::run_from 138,080 > access::accept 256'),
+    Figure('the program', 'run', 'main 17,360 > run::run_from 138,032 > access::accept 240'),
 ]
 SLACK = 10  # per cent that a figure may be above what is found before the test says so
 

@@ -23,13 +23,14 @@ pub struct Kept {
     pub choices: Choices,
 }
 
+// Of the orders that were tried, the run program takes fewest instructions with this one (bench/README.md).
 pub struct Core {
     pub repeater: Repeater,
-    pub changes: [u8; 8],
-    pub enables: [u8; 8],
-    pub kept: Kept,
     pub interface_error: bool,
     pub g: u8,
+    pub kept: Kept,
+    pub changes: [u8; 8],
+    pub enables: [u8; 8],
 }
 
 // What power-up is given by the caller.
