@@ -20,7 +20,7 @@ use Rattle.answer.specs.declared.Answer.{Answer}
 use Rattle.answer.specs.declared.Answer.the-variants.{Done, Sent, Value, Refused}
 use Rattle.attributes.proofs.NineLaws.{address-alike}
 use Rattle.chip.specs.declared.Core.{Core}
-use Rattle.chip.specs.Chip.{withChoices, withKept}
+use Rattle.chip.specs.Chip.{limitedTo, withChoices, withKept}
 use Rattle.himib.specs.Runs.{Point, Happening, happening, historyOf, runOf, answersIn, start, allAt, repeaterAt}
 use Rattle.himib.specs.Runs.{partitionedAt, linkedAt, enabledAt, counterAt, addressAt, transmitCollisions, totalOctets, limitAt}
 use Rattle.himib.proofs.Runs.{all-given, found, found-once}
@@ -190,8 +190,9 @@ short-shown : (found happens partedAt at81 between ≡ (81 ∷ 1 ∷ 0 ∷ 1 ∷
 unfolding step-computes happening runOf historyOf
 short-shown = (found-once happens partedAt at81 between refl, refl)
 
-cores-shown : let c : Core = run at75 between .chip .core in
-    let d : Core = run at81 between .chip .core in
-    d ≡ withKept c (withChoices (c .kept) (d .kept .choices))
+cores-shown :
+    let c : Core = run at75 between .chip .core in
+    let q : Point = run at81 between in
+    q .chip .core ≡ withKept c (withChoices (c .kept) (limitedTo (limitAt q) (c .kept .choices)))
 unfolding step-computes happening runOf
 cores-shown = refl
