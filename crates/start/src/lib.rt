@@ -17,8 +17,8 @@ use chip::FlatChip;
 use chip::FlatSupply;
 use chip::Kept;
 
-// Whether the file fits, the short event limit that it asks for, the number that power-up answers, 0 or 13, and a chip, which nobody runs beside a 13 or where
-// the file does not fit: what the rules speak of,
+// Whether the file fits, the short event limit that it asks for, the number that power-up answers, 0 or 13, and a chip. Nobody runs it beside a 13; where the file
+// does not fit it is the chip of a run without one. What the rules speak of,
 pub struct Started {
     pub fits: bool,
     pub limit: u32,
