@@ -6,59 +6,59 @@ use mathlib.Core.Path.{◌≡◌, sym, ap, ◌∙◌}
 use mathlib.Core.Bool.{Bool, true, false}
 use native.Mathlib.Omega.{arith}
 use borrow.Author.Tests.{eq-eqb, ne_eqb}
-use Rattle.management.specs.Commands.{commandOf}
+use Rattle.management.specs.Commands.{command_of}
 use Rattle.host.specs.declared.Host.{Host}
 use Rattle.host.specs.declared.Row.{Row}
 use Rattle.attributes.specs.declared.Nine.{Nine}
 use Rattle.changes.specs.Changes.{bit7}
 use Rattle.chip.specs.declared.Core.{Core}
-use Rattle.access.specs.Access.{isListed, takesCommands, turnedAway, selectedBy, read_of, writeOf, dReadOf, dWriteOf}
+use Rattle.access.specs.Access.{is_listed, takes_commands, turned_away, selected_by, read_of, write_of, d_read_of, d_write_of}
 use Rattle.access.proofs.Sheet
 
-pub bit7-le : (b : Bool) → bit7 b ≤ 128
-bit7-le true = omega arith
-bit7-le false = omega arith
+pub bit7_le : (b : Bool) → bit7 b ≤ 128
+bit7_le true = omega arith
+bit7_le false = omega arith
 
 -- w is the selected row
-module _ (h : Host) (w : Row) (s : w ≡ selectedBy h) where
-  none : w.size ≡ 0 → (selectedBy h).size ≡ 0
+module _ (h : Host) (w : Row) (s : w ≡ selected_by h) where
+  none : w.size ≡ 0 → (selected_by h).size ≡ 0
   none e = ap (λ (v : Row). v.size) (sym s) ∙ e
 
-  some : (w.size ≡ 0 → ⊥) → (selectedBy h).size ≡ 0 → ⊥
+  some : (w.size ≡ 0 → ⊥) → (selected_by h).size ≡ 0 → ⊥
   some e k = e (ap (λ (v : Row). v.size) s ∙ k)
 
   module _ (c : Core) (nine : Nine) where
-    pub read-unlisted : w.size ≡ 0 → turnedAway c h 5 ≡ dReadOf c nine h
-    unfolding dReadOf
-    read-unlisted e = rw (eq-eqb (selectedBy h).size 0 (none e))
+    pub read_unlisted : w.size ≡ 0 → turned_away c h 5 ≡ d_read_of c nine h
+    unfolding d_read_of
+    read_unlisted e = rw (eq-eqb (selected_by h).size 0 (none e))
 
-    pub read-barred : (w.size ≡ 0 → ⊥) → w.readable ≡ false → turnedAway c h 6 ≡ dReadOf c nine h
-    unfolding dReadOf
-    read-barred e r = rw (ne_eqb (selectedBy h).size 0 (some e), rw s at r)
+    pub read_barred : (w.size ≡ 0 → ⊥) → w.readable ≡ false → turned_away c h 6 ≡ d_read_of c nine h
+    unfolding d_read_of
+    read_barred e r = rw (ne_eqb (selected_by h).size 0 (some e), rw s at r)
 
-    pub read_done : (w.size ≡ 0 → ⊥) → w.readable ≡ true → read_of w c nine h ≡ dReadOf c nine h
-    unfolding dReadOf
-    read_done e r = rw (s, ne_eqb (selectedBy h).size 0 (some e), rw s at r)
+    pub read_done : (w.size ≡ 0 → ⊥) → w.readable ≡ true → read_of w c nine h ≡ d_read_of c nine h
+    unfolding d_read_of
+    read_done e r = rw (s, ne_eqb (selected_by h).size 0 (some e), rw s at r)
 
   module _ (c : Core) (b : ℕ) where
-    pub write-unlisted : w.size ≡ 0 → turnedAway c h 5 ≡ dWriteOf c h b
-    unfolding dWriteOf
-    write-unlisted e = rw (eq-eqb (selectedBy h).size 0 (none e))
+    pub write_unlisted : w.size ≡ 0 → turned_away c h 5 ≡ d_write_of c h b
+    unfolding d_write_of
+    write_unlisted e = rw (eq-eqb (selected_by h).size 0 (none e))
 
-    pub write-barred : (w.size ≡ 0 → ⊥) → w.writable ≡ false → turnedAway c h 6 ≡ dWriteOf c h b
-    unfolding dWriteOf
-    write-barred e r = rw (ne_eqb (selectedBy h).size 0 (some e), rw s at r)
+    pub write_barred : (w.size ≡ 0 → ⊥) → w.writable ≡ false → turned_away c h 6 ≡ d_write_of c h b
+    unfolding d_write_of
+    write_barred e r = rw (ne_eqb (selected_by h).size 0 (some e), rw s at r)
 
-    pub write-strange : (w.size ≡ 0 → ⊥) → w.writable ≡ true → takesCommands w.role ≡ true → isListed (commandOf b) ≡ false
-        → turnedAway c h 4 ≡ dWriteOf c h b
-    unfolding dWriteOf
-    write-strange e r t l = rw (ne_eqb (selectedBy h).size 0 (some e), rw s at r, rw s at t, l)
+    pub write_strange : (w.size ≡ 0 → ⊥) → w.writable ≡ true → takes_commands w.role ≡ true → is_listed (command_of b) ≡ false
+        → turned_away c h 4 ≡ d_write_of c h b
+    unfolding d_write_of
+    write_strange e r t l = rw (ne_eqb (selected_by h).size 0 (some e), rw s at r, rw s at t, l)
 
-    pub write-command : (w.size ≡ 0 → ⊥) → w.writable ≡ true → takesCommands w.role ≡ true → isListed (commandOf b) ≡ true
-        → writeOf w c h b ≡ dWriteOf c h b
-    unfolding dWriteOf
-    write-command e r t l = rw (s, ne_eqb (selectedBy h).size 0 (some e), rw s at r, rw s at t, l)
+    pub write_command : (w.size ≡ 0 → ⊥) → w.writable ≡ true → takes_commands w.role ≡ true → is_listed (command_of b) ≡ true
+        → write_of w c h b ≡ d_write_of c h b
+    unfolding d_write_of
+    write_command e r t l = rw (s, ne_eqb (selected_by h).size 0 (some e), rw s at r, rw s at t, l)
 
-    pub write-plain : (w.size ≡ 0 → ⊥) → w.writable ≡ true → takesCommands w.role ≡ false → writeOf w c h b ≡ dWriteOf c h b
-    unfolding dWriteOf
-    write-plain e r t = rw (s, ne_eqb (selectedBy h).size 0 (some e), rw s at r, rw s at t)
+    pub write_plain : (w.size ≡ 0 → ⊥) → w.writable ≡ true → takes_commands w.role ≡ false → write_of w c h b ≡ d_write_of c h b
+    unfolding d_write_of
+    write_plain e r t = rw (s, ne_eqb (selected_by h).size 0 (some e), rw s at r, rw s at t)

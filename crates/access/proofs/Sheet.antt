@@ -1,43 +1,43 @@
 -- Every row of specs/Sheet.antt, by computing. Assumes nothing.
 use mathlib.Core.Path.{◌≡◌, refl}
 use mathlib.Core.List.{List, map}
-use Rattle.host.specs.Sequence.{powerUp}
+use Rattle.host.specs.Sequence.{power_up}
 use Rattle.access.specs.Access.{value_of, number_of}
 use Rattle.access.specs.Sheet.{Row, said, ports, up, commands, bits, interrupts, registers, barred, address, completed}
-use Rattle.access.specs.Sheet.{Content, counting, countingPorts, contents}
+use Rattle.access.specs.Sheet.{Content, counting, counting_ports, contents}
 use Rattle.access.proofs.Computing.{accessing}
 
 abbrev Holds : List Row → Type 0
-Holds rows = map (λ (w : Row). w.answers) rows ≡ map (λ (w : Row). said w.core powerUp w.accesses) rows
+Holds rows = map (λ (w : Row). w.answers) rows ≡ map (λ (w : Row). said w.core power_up w.accesses) rows
 
-pub commands-hold : Holds commands
+pub commands_hold : Holds commands
 unfolding accessing said commands
-commands-hold = refl
+commands_hold = refl
 
-pub bits-hold : Holds bits
+pub bits_hold : Holds bits
 unfolding accessing said bits
-bits-hold = refl
+bits_hold = refl
 
-pub interrupts-hold : Holds interrupts
+pub interrupts_hold : Holds interrupts
 unfolding accessing said interrupts
-interrupts-hold = refl
+interrupts_hold = refl
 
-pub registers-hold : Holds registers
+pub registers_hold : Holds registers
 unfolding accessing said registers
-registers-hold = refl
+registers_hold = refl
 
-pub barred-hold : Holds barred
+pub barred_hold : Holds barred
 unfolding accessing said barred
-barred-hold = refl
+barred_hold = refl
 
-pub address-completed : completed ≡ ports up powerUp address
+pub address_completed : completed ≡ ports up power_up address
 unfolding accessing ports
-address-completed = refl
+address_completed = refl
 
-pub bytes-hold : map (λ (w : Content). w.bytes) contents ≡ map (λ (w : Content). value_of counting countingPorts w.register) contents
+pub bytes_hold : map (λ (w : Content). w.bytes) contents ≡ map (λ (w : Content). value_of counting counting_ports w.register) contents
 unfolding accessing contents
-bytes-hold = refl
+bytes_hold = refl
 
-pub numbers-hold : map (λ (w : Content). w.number) contents ≡ map (λ (w : Content). number_of counting countingPorts w.register) contents
+pub numbers_hold : map (λ (w : Content). w.number) contents ≡ map (λ (w : Content). number_of counting counting_ports w.register) contents
 unfolding accessing contents
-numbers-hold = refl
+numbers_hold = refl

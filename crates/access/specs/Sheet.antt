@@ -12,41 +12,41 @@
 use Rattle.std.specs.Prelude.{ℕ, ◌+◌, List, [], ◌∷◌, ◌++◌, replicate}
 use Rattle.ports.specs.Sets.{nobody}
 use Rattle.repeater.specs.Reset as Rep
-use Rattle.repeater.specs.Events.{afterInputs}
+use Rattle.repeater.specs.Events.{after_inputs}
 use Rattle.repeater.specs.Commands.{reporting}
 use Rattle.record.specs.declared.Access.{Access}
 use Rattle.record.specs.declared.Access.TheVariants.{WriteC, WriteD, ReadC, ReadD}
 use Rattle.host.specs.declared.Host.{Host}
-use Rattle.host.specs.Sequence.{powerUp}
+use Rattle.host.specs.Sequence.{power_up}
 use Rattle.host.specs.declared.Register.{Register}
 use Rattle.host.specs.declared.Register.TheVariants as reg
 use Rattle.attributes.specs.declared.Nine.{Nine}
-use Rattle.attributes.specs.Nine.{nothingCounted, withPort}
+use Rattle.attributes.specs.Nine.{nothing_counted, with_port}
 use Rattle.answer.specs.declared.Answer.{Answer}
 use Rattle.answer.specs.declared.Answer.TheVariants.{Done, Value, Refused}
 use Rattle.chip.specs.declared.Core.{Core}
-use Rattle.chip.specs.Chip.{usual, coreUp, withRepeater, withChanges}
+use Rattle.chip.specs.Chip.{usual, core_up, with_repeater, with_changes}
 use Rattle.access.specs.declared.Acted.{Acted}
 use Rattle.access.specs.Access.{served}
 
 unfoldable pub said : Core → Host → List Access → List Answer
 said c h [] = []
-said c h (a ∷ rest) = let t : Acted = served a c nothingCounted h in t.answer ∷ said t.core t.host rest
+said c h (a ∷ rest) = let t : Acted = served a c nothing_counted h in t.answer ∷ said t.core t.host rest
 
 unfoldable pub ports : Core → Host → List Access → List ℕ
 ports c h [] = []
-ports c h (a ∷ rest) = let t : Acted = served a c nothingCounted h in t.port ∷ ports t.core t.host rest
+ports c h (a ∷ rest) = let t : Acted = served a c nothing_counted h in t.port ∷ ports t.core t.host rest
 
 abbrev pub up : Core
-up = coreUp (record { transmit_collisions = 0; total_octets = 0; choices = usual })
+up = core_up (record { transmit_collisions = 0; total_octets = 0; choices = usual })
 
 -- TP0's partition bit and AUI's are one, and no other
 abbrev pub changed : Core
-changed = withChanges up (0b00000001 ∷ 0b10000000 ∷ replicate 6 0)
+changed = with_changes up (0b00000001 ∷ 0b10000000 ∷ replicate 6 0)
 
 -- status bits are one, among them that of TP1's bit rate errors
 abbrev pub reported : Core
-reported = withRepeater up (afterInputs Rep.powerUp reporting) up.changes
+reported = with_repeater up (after_inputs Rep.power_up reporting) up.changes
 
 pub record Row : Type 0 where
   pub core : Core
@@ -106,14 +106,14 @@ interrupts =
     ∷ []
 
 -- every change register holds another byte: each read gives its own, clears it and leaves the rest; so does each enable, which no read clears
-abbrev pub everyBit : Core
-everyBit = withChanges up (0x11 ∷ 0x80 ∷ 0x22 ∷ 0x80 ∷ 0x80 ∷ 0 ∷ 0x66 ∷ 0x80 ∷ [])
+abbrev pub every_bit : Core
+every_bit = with_changes up (0x11 ∷ 0x80 ∷ 0x22 ∷ 0x80 ∷ 0x80 ∷ 0 ∷ 0x66 ∷ 0x80 ∷ [])
 
 unfoldable pub registers : List Row
 registers =
-    from everyBit (select 1 0 ++ (ReadD ∷ ReadD ∷ WriteC 0xe2 ∷ ReadD ∷ ReadD ∷ WriteC 0xe6 ∷ ReadD ∷ ReadD ∷ []))
+    from every_bit (select 1 0 ++ (ReadD ∷ ReadD ∷ WriteC 0xe2 ∷ ReadD ∷ ReadD ∷ WriteC 0xe6 ∷ ReadD ∷ ReadD ∷ []))
     (selected (Value 0x11 ∷ Value 0x00 ∷ Done ∷ Value 0x22 ∷ Value 0x00 ∷ Done ∷ Value 0x66 ∷ Value 0x00 ∷ []))
-    ∷ from everyBit (select 1 1 ++ (ReadD ∷ ReadD ∷ WriteC 0xe3 ∷ ReadD ∷ ReadD ∷ WriteC 0xe4 ∷ ReadD ∷ ReadD ∷ WriteC 0xe7 ∷ ReadD ∷ ReadD ∷ []))
+    ∷ from every_bit (select 1 1 ++ (ReadD ∷ ReadD ∷ WriteC 0xe3 ∷ ReadD ∷ ReadD ∷ WriteC 0xe4 ∷ ReadD ∷ ReadD ∷ WriteC 0xe7 ∷ ReadD ∷ ReadD ∷ []))
     (selected (Value 0x80 ∷ Value 0x00 ∷ Done ∷ Value 0x80 ∷ Value 0x00 ∷ Done ∷ Value 0x80 ∷ Value 0x00 ∷ Done ∷ Value 0x80 ∷ Value 0x00 ∷ []))
     ∷ from up (select 2 0 ++ (WriteD 0x12 ∷ WriteC 0xe2 ∷ WriteD 0x34 ∷ WriteC 0xe0 ∷ ReadD ∷ ReadD ∷ WriteC 0xe2 ∷ ReadD ∷ []))
     (selected (Done ∷ Done ∷ Done ∷ Done ∷ Value 0x12 ∷ Value 0x12 ∷ Done ∷ Value 0x34 ∷ []))
@@ -152,11 +152,11 @@ completed = replicate 7 nobody ++ (8 ∷ [])
 
 -- Transmit Collisions and Total Octets are far apart, and so are the counters of TP3
 abbrev pub counting : Core
-counting = coreUp (record { transmit_collisions = 0x04030201; total_octets = 0x08070605; choices = usual })
+counting = core_up (record { transmit_collisions = 0x04030201; total_octets = 0x08070605; choices = usual })
 
-abbrev pub countingPorts : Nine
-countingPorts =
-    withPort nothingCounted 3
+abbrev pub counting_ports : Nine
+counting_ports =
+    with_port nothing_counted 3
     (record { counters = 20 ∷ 21 ∷ 22 ∷ 23 ∷ 24 ∷ 25 ∷ 26 ∷ 27 ∷ 28 ∷ 29 ∷ 30 ∷ 31 ∷ 0xff000020 ∷ []; address = 2 ∷ 0 ∷ 0 ∷ 7 ∷ 8 ∷ 9 ∷ [] })
 
 pub record Content : Type 0 where

@@ -11,25 +11,25 @@ use Rattle.record.specs.declared.Access.TheVariants.{WriteC}
 use Rattle.host.specs.declared.Host.{Host}
 use Rattle.host.specs.Sequence.{selects}
 use Rattle.answer.specs.declared.Answer.TheVariants.{Refused}
-use Rattle.answer.specs.Answer.{number_of, outputsOf, byte_of}
+use Rattle.answer.specs.Answer.{number_of, outputs_of, byte_of}
 use Rattle.attributes.specs.declared.Nine.{Nine}
 use Rattle.chip.specs.declared.Core.{Core}
 use Rattle.access.specs.declared.Acted.{Acted}
-use Rattle.access.specs.Access.{dReadOf, dWriteOf, served}
+use Rattle.access.specs.Access.{d_read_of, d_write_of, served}
 
 pub record Still (c : Core) (h : Host) (t : Acted) (k : ℕ) : Type 0 where
   pub core : t.core ≡ c
   pub host : t.host ≡ h
   pub port : t.port ≡ nobody
   pub number : number_of t.answer ≡ k
-  pub outputs : outputsOf t.answer ≡ 0
+  pub outputs : outputs_of t.answer ≡ 0
   pub value : byte_of t.answer ≡ 0
 
 abbrev pub ReadIsStill : Type 0
-ReadIsStill = (c : Core) (nine : Nine) (h : Host) (k : ℕ) → (dReadOf c nine h).answer ≡ Refused k → Still c h (dReadOf c nine h) k
+ReadIsStill = (c : Core) (nine : Nine) (h : Host) (k : ℕ) → (d_read_of c nine h).answer ≡ Refused k → Still c h (d_read_of c nine h) k
 
 abbrev pub WriteIsStill : Type 0
-WriteIsStill = (c : Core) (h : Host) (b k : ℕ) → (dWriteOf c h b).answer ≡ Refused k → Still c h (dWriteOf c h b) k
+WriteIsStill = (c : Core) (h : Host) (b k : ℕ) → (d_write_of c h b).answer ≡ Refused k → Still c h (d_write_of c h b) k
 
 abbrev pub SelectIsStill : Type 0
 SelectIsStill =

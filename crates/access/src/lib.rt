@@ -2,9 +2,9 @@
 // sequences are the crate host's.
 ghost use Rattle.std.specs.Prelude.{◌+◌, ◌≤◌, ◌≡◌, cond};
 ghost use Rattle.ports.specs.Sets.{nobody};
-ghost use Rattle.attributes.specs.Flat.{nineOf};
-ghost use Rattle.access.specs.Access.{value_of, read_by, obeyed, isListed, takesCommands, plain, written_by, done, turnedAway, cReadOf, read_of, writeOf};
-ghost use Rattle.access.specs.Access.{dReadOf, dWriteOf, served};
+ghost use Rattle.attributes.specs.Flat.{nine_of};
+ghost use Rattle.access.specs.Access.{value_of, read_by, obeyed, is_listed, takes_commands, plain, written_by, done, turned_away, c_read_of, read_of, write_of};
+ghost use Rattle.access.specs.Access.{d_read_of, d_write_of, served};
 
 use answer::Answer;
 use attributes::Flat;
@@ -44,7 +44,7 @@ impl Acted {
 
     // Turned away: nothing changes.
     fn turn_away(core: Core, h: Host, number: u8) -> Acted
-        ensures { result ≡ turnedAway core h number }
+        ensures { result ≡ turned_away core h number }
     {
         Acted {
             core: core,
@@ -83,7 +83,7 @@ fn value(
     addresses: &[u8; Flat::ADDRESSES],
     register: Register,
 ) -> [u8; 6]
-    ensures { result ≡ value_of core (nineOf counters.now addresses.now) register }
+    ensures { result ≡ value_of core (nine_of counters.now addresses.now) register }
 {
     let changes = core.changes;
     let enables = core.enables;
@@ -200,7 +200,7 @@ fn with_error(interrupt: u8, error: bool) -> u8
 
 // A C read: interrupt and interface error, which it clears.
 pub fn read_c(mut core: Core, h: Host) -> Acted
-    ensures { result ≡ cReadOf core h }
+    ensures { result ≡ c_read_of core h }
 {
     let changes = core.changes;
     let enables = core.enables;
@@ -223,7 +223,7 @@ fn read(
     h: Host,
     row: Row,
 ) -> Acted
-    ensures { result ≡ read_of row core (nineOf counters.now addresses.now) h }
+    ensures { result ≡ read_of row core (nine_of counters.now addresses.now) h }
 {
     let register = row.register;
     let role = row.role;
@@ -246,7 +246,7 @@ pub fn read_d(
     addresses: &[u8; Flat::ADDRESSES],
     h: Host,
 ) -> Acted
-    ensures { result ≡ dReadOf core (nineOf counters.now addresses.now) h }
+    ensures { result ≡ d_read_of core (nine_of counters.now addresses.now) h }
 {
     let row = host::row_at(h.page, h.register);
     if row.size == 0 {
@@ -270,7 +270,7 @@ fn completed(complete: bool, port: usize) -> usize
 
 // Whether a register takes commands.
 fn takes_commands(role: Role) -> bool
-    ensures { result ≡ takesCommands role }
+    ensures { result ≡ takes_commands role }
 {
     match role {
         Role::Plain => false,
@@ -283,7 +283,7 @@ fn takes_commands(role: Role) -> bool
 
 // Whether a byte is a command.
 fn is_listed(command: Command) -> bool
-    ensures { result ≡ isListed command }
+    ensures { result ≡ is_listed command }
 {
     match command {
         Command::Set(_) => true,
@@ -294,7 +294,7 @@ fn is_listed(command: Command) -> bool
 
 // An accepted D write.
 fn accept(core: Core, h: Host, row: Row, byte: u8) -> Acted
-    ensures { result ≡ writeOf row core h byte }
+    ensures { result ≡ write_of row core h byte }
 {
     let role = row.role;
     let written = write(core, role, byte);
@@ -312,7 +312,7 @@ fn accept(core: Core, h: Host, row: Row, byte: u8) -> Acted
 
 // A D write.
 pub fn write_d(core: Core, h: Host, byte: u8) -> Acted
-    ensures { result ≡ dWriteOf core h byte }
+    ensures { result ≡ d_write_of core h byte }
 {
     let row = host::row_at(h.page, h.register);
     if row.size == 0 {
@@ -339,7 +339,7 @@ pub fn serve(
     h: Host,
     access: Access,
 ) -> Acted
-    ensures { result ≡ served access core (nineOf counters.now addresses.now) h }
+    ensures { result ≡ served access core (nine_of counters.now addresses.now) h }
 {
     match access {
         Access::WriteC(byte) => Acted::done(core, host::select(h, byte)),

@@ -1,7 +1,7 @@
 -- Settings and links at their boundaries, computed: deeds from power-up, a port, and whether it is enabled, its link is tested, and its link passes.
 -- Assumes nothing.
---   shown-so == the chip shows them so
---   told-so  == and the past tells them so
+--   shown_so == the chip shows them so
+--   told_so  == and the past tells them so
 use Prim.Native.Nat.{ℕ}
 use mathlib.Core.Path.{◌≡◌, refl}
 use mathlib.Core.Bool.{Bool, true, false}
@@ -10,14 +10,14 @@ use lib.ListN.{replicate}
 use Rattle.ports.specs.Sets.{has}
 use Rattle.port.specs.declared.Port.{Port}
 use Rattle.repeater.specs.declared.Repeater.{Repeater}
-use Rattle.repeater.specs.Door.{portAt}
-use Rattle.repeater.specs.Reset.{powerUp}
+use Rattle.repeater.specs.Door.{port_at}
+use Rattle.repeater.specs.Reset.{power_up}
 use Rattle.repeater.proofs.Computing.{repeating}
 use Rattle.past.specs.Deeds.{Deed, pulses, ticks, commands, resets}
-use Rattle.past.specs.Since.{cameSince}
-use Rattle.past.specs.Settings.{enabledBy, testedBy}
-use Rattle.past.specs.Link.{silent, trained, raises, breaks, passesBy}
-use Rattle.alone.specs.Doing.{repeaterBy}
+use Rattle.past.specs.Since.{came_since}
+use Rattle.past.specs.Settings.{enabled_by, tested_by}
+use Rattle.past.specs.Link.{silent, trained, raises, breaks, passes_by}
+use Rattle.alone.specs.Doing.{repeater_by}
 
 pub record Seen : Type 0 where
   pub enabled : Bool
@@ -36,16 +36,16 @@ abbrev pub row : List Deed → ℕ → Bool → Bool → Bool → Row
 row past i enabled tested passes = record { past = past; place = i; wanted = seen enabled tested passes }
 
 abbrev pub after : List Deed → Repeater
-after [] = powerUp
-after (d ∷ past) = repeaterBy d (after past)
+after [] = power_up
+after (d ∷ past) = repeater_by d (after past)
 
 abbrev pub shown : Row → Seen
 shown w =
-    let p : Port = portAt (after w.past) w.place in
+    let p : Port = port_at (after w.past) w.place in
     seen p.enabled p.link_test p.link_pass
 
 abbrev pub told : Row → Seen
-told w = seen (enabledBy w.place w.past) (testedBy w.place w.past) (passesBy w.place w.past)
+told w = seen (enabled_by w.place w.past) (tested_by w.place w.past) (passes_by w.place w.past)
 
 abbrev pub tick : ℕ → List Deed
 tick n = replicate n ticks
@@ -77,8 +77,8 @@ rows =
     ∷ []
 
 -- with many ticks: a gap of 99 and of 100; 99 silent ones and 100; a pulse between them; the same after the test was switched on; AUI's link never fails
-abbrev pub longRows : List Row
-longRows =
+abbrev pub long_rows : List Row
+long_rows =
     row (pulse 1 ++ tick 99 ++ pulse 3) 0 true true true
     ∷ row (pulse 1 ++ tick 100 ++ pulse 3) 0 true true false
     ∷ row (tick 99 ++ pulse 4) 0 true true true
@@ -89,11 +89,11 @@ longRows =
     ∷ row (tick 100) 8 true false true
     ∷ []
 
-pub shown-so : map shown (rows ++ longRows) ≡ map (λ (w : Row). w.wanted) (rows ++ longRows)
-unfolding repeaterBy repeating
-shown-so = refl
+pub shown_so : map shown (rows ++ long_rows) ≡ map (λ (w : Row). w.wanted) (rows ++ long_rows)
+unfolding repeater_by repeating
+shown_so = refl
 
 -- a past with many ticks takes too long to ask: what it tells is what is shown (Link: linked)
-pub told-so : map told rows ≡ map (λ (w : Row). w.wanted) rows
-unfolding enabledBy testedBy cameSince silent trained raises breaks passesBy has
-told-so = refl
+pub told_so : map told rows ≡ map (λ (w : Row). w.wanted) rows
+unfolding enabled_by tested_by came_since silent trained raises breaks passes_by has
+told_so = refl

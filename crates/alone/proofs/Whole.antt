@@ -1,8 +1,8 @@
 -- All that the chip shows is what the past says, from deed to deed and so over any records; and every answer with it. Assumes nothing.
 --   Whole start past p  == all of it, at the point p after a past
---   whole-up, whole-next, whole_run == at power-up, after a deed, and after records
---   step-did            == a record leads where its deed does
---   answer-seen, answer-after == the answer to a deed, and to a record
+--   whole_up, whole_next, whole_run == at power-up, after a deed, and after records
+--   step_did            == a record leads where its deed does
+--   answer_seen, answer_after == the answer to a deed, and to a record
 use Prim.Native.Nat.{ℕ, ◌<◌}
 use mathlib.Core.Path.{◌≡◌, refl, sym, ap, ap₂, subst, ◌∙◌}
 use mathlib.Core.List.{List, [], ◌∷◌}
@@ -17,121 +17,121 @@ use Rattle.host.specs.Map.{row_at}
 use Rattle.answer.specs.declared.Answer.{Answer}
 use Rattle.answer.specs.declared.Answer.TheVariants.{Value}
 use Rattle.chip.specs.declared.Supply.{Supply}
-use Rattle.access.specs.Access.{selectedBy, value_of}
+use Rattle.access.specs.Access.{selected_by, value_of}
 use Rattle.himib.specs.declared.Stepped.{Stepped}
-use Rattle.himib.specs.Bursts.{notedOn, burstOn}
+use Rattle.himib.specs.Bursts.{noted_on, burst_on}
 use Rattle.himib.specs.Runs as Runs
-use Rattle.himib.specs.Runs.{Point, at, happening, run_of, historyOf, answersIn, repeaterAt}
-use Rattle.past.specs.Deeds.{Deed, bursts, pulses, ticks, commands, uses, resets, refused, Use, selectsP, selectsR, allows, addresses, asks, reads}
-use Rattle.past.specs.Deeds.{pageBy, registerBy, deedAfter, deedsFrom}
-use Rattle.past.specs.Reads.{Start, byteBy}
-use Rattle.past.specs.Answers.{answerBy, answersBy}
-use Rattle.alone.specs.Doing.{usedAt, doing, next, repeaterBy, Proper}
+use Rattle.himib.specs.Runs.{Point, at, happening, run_of, history_of, answers_in, repeater_at}
+use Rattle.past.specs.Deeds.{Deed, bursts, pulses, ticks, commands, uses, resets, refused, Use, selects_p, selects_r, allows, addresses, asks, reads}
+use Rattle.past.specs.Deeds.{page_by, register_by, deed_after, deeds_from}
+use Rattle.past.specs.Reads.{Start, byte_by}
+use Rattle.past.specs.Answers.{answer_by, answers_by}
+use Rattle.alone.specs.Doing.{used_at, doing, next, repeater_by, Proper}
 use Rattle.alone.specs.Seen.{Settled, Linked, Stood, Parted, BurstSeen, DueSeen, Reported, Counted, Noticed, start_of}
 use Rattle.alone.specs.Selected.{StandsUse, StandsOn, Sequenced}
 use Rattle.alone.specs.Judged.{happens, history, run}
 use Rattle.alone.specs.Alone.{Supplied}
-use Rattle.alone.proofs.Instances.{zero-supplied}
-use Rattle.alone.proofs.Did.{did, proper-deed, selection-next, repeater-next}
-use Rattle.alone.proofs.Settings.{settled_up, settled-next}
-use Rattle.alone.proofs.Link.{LinkKept, link_up, link-next, linked}
-use Rattle.alone.proofs.Bursts.{burst-seen}
-use Rattle.alone.proofs.Partition.{stood-up, stood-next, partitioned-mask}
-use Rattle.alone.proofs.Credits.{cuts-seen, due-seen}
-use Rattle.alone.proofs.Rows.{Rowed, rowed-up, rowed-next}
-use Rattle.alone.proofs.Counted.{Foreseen, counted-up, counted_next}
-use Rattle.alone.proofs.Status.{reported-up, reported-next}
-use Rattle.alone.proofs.Noticed.{noticed-up, noticed-next}
-use Rattle.alone.proofs.Interrupt.{status-seen}
-use Rattle.alone.proofs.Sequenced.{stands_on, sequenced-up, sequenced-next, read-seen}
-use Rattle.alone.proofs.Values.{value-seen}
+use Rattle.alone.proofs.Instances.{zero_supplied}
+use Rattle.alone.proofs.Did.{did, proper_deed, selection_next, repeater_next}
+use Rattle.alone.proofs.Settings.{settled_up, settled_next}
+use Rattle.alone.proofs.Link.{LinkKept, link_up, link_next, linked}
+use Rattle.alone.proofs.Bursts.{burst_seen_lem}
+use Rattle.alone.proofs.Partition.{stood_up, stood_next, partitioned_mask}
+use Rattle.alone.proofs.Credits.{cuts_seen, due_seen_lem}
+use Rattle.alone.proofs.Rows.{Rowed, rowed_up, rowed_next}
+use Rattle.alone.proofs.Counted.{Foreseen, counted_up, counted_next}
+use Rattle.alone.proofs.Status.{reported_up, reported_next}
+use Rattle.alone.proofs.Noticed.{noticed_up, noticed_next}
+use Rattle.alone.proofs.Interrupt.{status_seen}
+use Rattle.alone.proofs.Sequenced.{stands_on, sequenced_up, sequenced_next, read_seen}
+use Rattle.alone.proofs.Values.{value_seen}
 
 pub record Whole (start : Start) (past : List Deed) (p : Point) : Type 0 where
-  pub page : p.host.page ≡ pageBy past
-  pub register : p.host.register ≡ registerBy past
-  pub settled : Settled past (repeaterAt p)
-  pub link : LinkKept past (repeaterAt p)
-  pub stood : Stood past (repeaterAt p)
-  pub reported : Reported past (repeaterAt p)
+  pub page : p.host.page ≡ page_by past
+  pub register : p.host.register ≡ register_by past
+  pub settled : Settled past (repeater_at p)
+  pub link : LinkKept past (repeater_at p)
+  pub stood : Stood past (repeater_at p)
+  pub reported : Reported past (repeater_at p)
   pub counted : Counted start past p
   pub noticed : Noticed start past p
   pub row : Rowed past p.host
   pub sequence : Sequenced start past p.host
 
 -- the register that is selected is the past's
-on-selected : (past : List Deed) (h : Host) (d : Deed) → h.page ≡ pageBy past → h.register ≡ registerBy past
-    → StandsOn (row_at (pageBy past) (registerBy past)) d → StandsOn (selectedBy h) d
-on-selected past h d e f on = rw (e, f) on
+on_selected : (past : List Deed) (h : Host) (d : Deed) → h.page ≡ page_by past → h.register ≡ register_by past
+    → StandsOn (row_at (page_by past) (register_by past)) d → StandsOn (selected_by h) d
+on_selected past h d e f on = rw (e, f) on
 
 parted : (past : List Deed) (r : Repeater) → Settled past r → Stood past r → Parted past r
-parted past r settled stood i l = partitioned-mask past r stood settled i (omega arith) ∙ rw (lt-ltb i 9 l)
+parted past r settled stood i l = partitioned_mask past r stood settled i (omega arith) ∙ rw (lt-ltb i 9 l)
 
 module _ (start : Start) (past : List Deed) (p : Point) (w : Whole start past p) where
   abbrev r : Repeater
-  r = repeaterAt p
+  r = repeater_at p
 
-  links-now : Linked past r
-  links-now = linked past r w.settled w.link
+  links_now : Linked past r
+  links_now = linked past r w.settled w.link
 
-  parted-now : Parted past r
-  parted-now = parted past r w.settled w.stood
+  parted_now : Parted past r
+  parted_now = parted past r w.settled w.stood
 
   -- a burst that comes next
   module _ (b : Burst) (source : List ℕ) (proper : Proper (bursts b source)) where
-    seen-now : BurstSeen past r b
-    seen-now = burst-seen past r b w.settled links-now w.stood proper.0.mask_below
+    seen_now : BurstSeen past r b
+    seen_now = burst_seen_lem past r b w.settled links_now w.stood proper.0.mask_below
 
-    due-now : DueSeen start past p b source
-    due-now =
-        due-seen past p b source seen-now (record { low = w.counted.limit-low; octets = proper.0.octets-within }) start w.counted.addresses
+    due_now : DueSeen start past p b source
+    due_now =
+        due_seen_lem past p b source seen_now (record { low = w.counted.limit_low; octets = proper.0.octets_within }) start w.counted.addresses
         w.counted.six proper.1
 
   -- a register that is read next
-  value-now : (register : Register) (size : ℕ) → Proper (uses (reads register size)) → (i : ℕ) → i < size
-      → get_or (value_of p.chip.core p.chip.attributes register) i 0 ≡ byteBy start past register i
-  value-now register size proper i l = value-seen start past p w.counted w.noticed register proper.0 i (rw proper.2 l)
+  value_now : (register : Register) (size : ℕ) → Proper (uses (reads register size)) → (i : ℕ) → i < size
+      → get_or (value_of p.chip.core p.chip.attributes register) i 0 ≡ byte_by start past register i
+  value_now register size proper i l = value_seen start past p w.counted w.noticed register proper.0 i (rw proper.2 l)
 
-  module _ (d : Deed) (proper : Proper d) (on : StandsOn (row_at (pageBy past) (registerBy past)) d) where
+  module _ (d : Deed) (proper : Proper d) (on : StandsOn (row_at (page_by past) (register_by past)) d) where
     abbrev then : Repeater
-    then = repeaterAt (next d p)
+    then = repeater_at (next d p)
 
-    moves : then ≡ repeaterBy d r
-    moves = repeater-next p d
+    moves : then ≡ repeater_by d r
+    moves = repeater_next p d
 
-    settled-then : Settled (d ∷ past) then
-    settled-then = subst (Settled (d ∷ past)) (sym moves) (settled-next past d r proper w.settled)
+    settled_then : Settled (d ∷ past) then
+    settled_then = subst (Settled (d ∷ past)) (sym moves) (settled_next past d r proper w.settled)
 
-    link-then : LinkKept (d ∷ past) then
-    link-then = subst (LinkKept (d ∷ past)) (sym moves) (link-next past d r proper w.settled w.link)
+    link_then : LinkKept (d ∷ past) then
+    link_then = subst (LinkKept (d ∷ past)) (sym moves) (link_next past d r proper w.settled w.link)
 
-    stood-then : Stood (d ∷ past) then
-    stood-then = subst (Stood (d ∷ past)) (sym moves) (stood-next past d r proper w.settled links-now w.stood)
+    stood_then : Stood (d ∷ past) then
+    stood_then = subst (Stood (d ∷ past)) (sym moves) (stood_next past d r proper w.settled links_now w.stood)
 
-    links-then : Linked (d ∷ past) then
-    links-then = linked (d ∷ past) then settled-then link-then
+    links_then : Linked (d ∷ past) then
+    links_then = linked (d ∷ past) then settled_then link_then
 
-    parted-then : Parted (d ∷ past) then
-    parted-then = parted (d ∷ past) then settled-then stood-then
+    parted_then : Parted (d ∷ past) then
+    parted_then = parted (d ∷ past) then settled_then stood_then
 
     seen_as : (b : Burst) (source : List ℕ) → d ≡ bursts b source → BurstSeen past r b
-    seen_as b source e = seen-now b source (subst Proper e proper)
+    seen_as b source e = seen_now b source (subst Proper e proper)
 
-    due-as : (b : Burst) (source : List ℕ) → d ≡ bursts b source → DueSeen start past p b source
-    due-as b source e = due-now b source (subst Proper e proper)
+    due_as : (b : Burst) (source : List ℕ) → d ≡ bursts b source → DueSeen start past p b source
+    due_as b source e = due_now b source (subst Proper e proper)
 
     value_as : (register : Register) (size : ℕ) → d ≡ uses (reads register size) → (i : ℕ) → i < size
-        → get_or (value_of p.chip.core p.chip.attributes register) i 0 ≡ byteBy start past register i
-    value_as register size e = value-now register size (subst Proper e proper)
+        → get_or (value_of p.chip.core p.chip.attributes register) i 0 ≡ byte_by start past register i
+    value_as register size e = value_now register size (subst Proper e proper)
 
-    on-now : StandsOn (selectedBy p.host) d
-    on-now = on-selected past p.host d w.page w.register on
+    on_now : StandsOn (selected_by p.host) d
+    on_now = on_selected past p.host d w.page w.register on
 
-  foreseen : (d : Deed) (proper : Proper d) (on : StandsOn (row_at (pageBy past) (registerBy past)) d) → Foreseen past p d
-  unfolding repeaterBy
+  foreseen : (d : Deed) (proper : Proper d) (on : StandsOn (row_at (page_by past) (register_by past)) d) → Foreseen past p d
+  unfolding repeater_by
   foreseen (bursts b source) proper on = (
-    seen-now b source proper,
-    cuts-seen past p b source parted-now
-        (subst (Parted (bursts b source ∷ past)) (moves (bursts b source) proper on) (parted-then (bursts b source) proper on)),
+    seen_now b source proper,
+    cuts_seen past p b source parted_now
+        (subst (Parted (bursts b source ∷ past)) (moves (bursts b source) proper on) (parted_then (bursts b source) proper on)),
   )
   foreseen (pulses mask) proper on = tt
   foreseen ticks proper on = tt
@@ -140,93 +140,93 @@ module _ (start : Start) (past : List Deed) (p : Point) (w : Whole start past p)
   foreseen resets proper on = tt
   foreseen (refused k) proper on = tt
 
-  whole-next : (d : Deed) → Proper d → StandsOn (row_at (pageBy past) (registerBy past)) d → Whole start (d ∷ past) (next d p)
-  whole-next d proper on =
-      let s = selection-next past p w.page w.register d in
+  whole_next : (d : Deed) → Proper d → StandsOn (row_at (page_by past) (register_by past)) d → Whole start (d ∷ past) (next d p)
+  whole_next d proper on =
+      let s = selection_next past p w.page w.register d in
       record {
         page = s.0;
         register = s.1;
-        settled = settled-then d proper on;
-        link = link-then d proper on;
-        stood = stood-then d proper on;
-        reported = subst (Reported (d ∷ past)) (sym (moves d proper on)) (reported-next past d r proper (seen_as d proper on) w.reported);
-        counted = counted_next start past d p proper (foreseen d proper on) (on-now d proper on) w.row w.counted;
+        settled = settled_then d proper on;
+        link = link_then d proper on;
+        stood = stood_then d proper on;
+        reported = subst (Reported (d ∷ past)) (sym (moves d proper on)) (reported_next past d r proper (seen_as d proper on) w.reported);
+        counted = counted_next start past d p proper (foreseen d proper on) (on_now d proper on) w.row w.counted;
         noticed =
-            noticed-next start past d p proper (seen_as d proper on) (due-as d proper on) parted-now (parted-then d proper on) links-now
-            (links-then d proper on) w.reported w.noticed;
-        row = rowed-next past d p proper (on-now d proper on) w.counted.six w.row;
-        sequence = sequenced-next start past d p (on-now d proper on) (value_as d proper on) w.sequence;
+            noticed_next start past d p proper (seen_as d proper on) (due_as d proper on) parted_now (parted_then d proper on) links_now
+            (links_then d proper on) w.reported w.noticed;
+        row = rowed_next past d p proper (on_now d proper on) w.counted.six w.row;
+        sequence = sequenced_next start past d p (on_now d proper on) (value_as d proper on) w.sequence;
       }
 
   -- THE ANSWER
 
-  used-seen : (u : Use) → Proper (uses u) → StandsUse (selectedBy p.host) u → (doing (uses u) p).answer ≡ answerBy start past (uses u)
-  unfolding doing usedAt answerBy
-  used-seen (selectsP n) proper on = refl
-  used-seen (selectsR n) proper on = refl
-  used-seen (allows k b) proper on = refl
-  used-seen (addresses i b) proper on = refl
-  used-seen asks proper on = ap Value (status-seen start past p w.noticed)
-  used-seen (reads register size) proper on =
+  used_seen : (u : Use) → Proper (uses u) → StandsUse (selected_by p.host) u → (doing (uses u) p).answer ≡ answer_by start past (uses u)
+  unfolding doing used_at answer_by
+  used_seen (selects_p n) proper on = refl
+  used_seen (selects_r n) proper on = refl
+  used_seen (allows k b) proper on = refl
+  used_seen (addresses i b) proper on = refl
+  used_seen asks proper on = ap Value (status_seen start past p w.noticed)
+  used_seen (reads register size) proper on =
       ap Value
-      (read-seen start past p.host register size (value_of p.chip.core p.chip.attributes register) w.sequence on (value-now register size proper))
+      (read_seen start past p.host register size (value_of p.chip.core p.chip.attributes register) w.sequence on (value_now register size proper))
 
-  pub answer-seen : (d : Deed) → Proper d → StandsOn (row_at (pageBy past) (registerBy past)) d → (doing d p).answer ≡ answerBy start past d
-  unfolding doing answerBy notedOn burstOn
-  answer-seen (bursts b source) proper on = let seen = seen-now b source proper in rw (seen.word, seen.out)
-  answer-seen (pulses mask) proper on = refl
-  answer-seen ticks proper on = refl
-  answer-seen (commands g c) proper on = refl
-  answer-seen (uses u) proper on = used-seen u proper (on-now (uses u) proper on)
-  answer-seen resets proper on = refl
-  answer-seen (refused k) proper on = refl
+  pub answer_seen : (d : Deed) → Proper d → StandsOn (row_at (page_by past) (register_by past)) d → (doing d p).answer ≡ answer_by start past d
+  unfolding doing answer_by noted_on burst_on
+  answer_seen (bursts b source) proper on = let seen = seen_now b source proper in rw (seen.word, seen.out)
+  answer_seen (pulses mask) proper on = refl
+  answer_seen ticks proper on = refl
+  answer_seen (commands g c) proper on = refl
+  answer_seen (uses u) proper on = used_seen u proper (on_now (uses u) proper on)
+  answer_seen resets proper on = refl
+  answer_seen (refused k) proper on = refl
 
 -- RUNS
 
 module _ (start : Start) where
   module _ (past : List Deed) (p : Point) (w : Whole start past p) (bs : List ℕ) where
-    pub step-did : (Runs.happening p bs).after ≡ next (deedAfter past bs) p
+    pub step_did : (Runs.happening p bs).after ≡ next (deed_after past bs) p
     unfolding happening
-    step-did = ap (λ (t : Stepped). at t.chip t.host) (did past p w.page w.register bs)
+    step_did = ap (λ (t : Stepped). at t.chip t.host) (did past p w.page w.register bs)
 
-    pub whole-after : Whole start (deedAfter past bs ∷ past) (happens p bs).after
-    whole-after =
-        subst (Whole start (deedAfter past bs ∷ past)) (sym step-did)
-        (whole-next start past p w (deedAfter past bs) (proper-deed past bs) (stands_on past bs))
+    pub whole_after : Whole start (deed_after past bs ∷ past) (happens p bs).after
+    whole_after =
+        subst (Whole start (deed_after past bs ∷ past)) (sym step_did)
+        (whole_next start past p w (deed_after past bs) (proper_deed past bs) (stands_on past bs))
 
-    pub answer-after : (happens p bs).answer ≡ answerBy start past (deedAfter past bs)
+    pub answer_after : (happens p bs).answer ≡ answer_by start past (deed_after past bs)
     unfolding happening
-    answer-after =
+    answer_after =
         ap (λ (t : Stepped). t.answer) (did past p w.page w.register bs)
-        ∙ answer-seen start past p w (deedAfter past bs) (proper-deed past bs) (stands_on past bs)
+        ∙ answer_seen start past p w (deed_after past bs) (proper_deed past bs) (stands_on past bs)
 
-  pub whole_run : (past : List Deed) (p : Point) (rs : List (List ℕ)) → Whole start past p → Whole start (deedsFrom past rs) (run p rs)
-  unfolding run_of deedsFrom
+  pub whole_run : (past : List Deed) (p : Point) (rs : List (List ℕ)) → Whole start past p → Whole start (deeds_from past rs) (run p rs)
+  unfolding run_of deeds_from
   whole_run past p [] w = w
-  whole_run past p (bs ∷ rs) w = whole_run (deedAfter past bs ∷ past) (happens p bs).after rs (whole-after past p w bs)
+  whole_run past p (bs ∷ rs) w = whole_run (deed_after past bs ∷ past) (happens p bs).after rs (whole_after past p w bs)
 
-  pub answers-run : (past : List Deed) (p : Point) (rs : List (List ℕ)) → Whole start past p → answersIn (history p rs) ≡ answersBy start past rs
-  unfolding historyOf answersBy
-  answers-run past p [] w = refl
-  answers-run past p (bs ∷ rs) w =
-      ap₂ (λ (a : Answer) (more : List Answer). a ∷ more) (answer-after past p w bs)
-      (answers-run (deedAfter past bs ∷ past) (happens p bs).after rs (whole-after past p w bs))
+  pub answers_run : (past : List Deed) (p : Point) (rs : List (List ℕ)) → Whole start past p → answers_in (history p rs) ≡ answers_by start past rs
+  unfolding history_of answers_by
+  answers_run past p [] w = refl
+  answers_run past p (bs ∷ rs) w =
+      ap₂ (λ (a : Answer) (more : List Answer). a ∷ more) (answer_after past p w bs)
+      (answers_run (deed_after past bs ∷ past) (happens p bs).after rs (whole_after past p w bs))
 
-pub whole-up : (given : Supply) → Supplied given → Whole (start_of given) [] (Runs.start given)
-unfolding pageBy registerBy
-whole-up given s = record {
+pub whole_up : (given : Supply) → Supplied given → Whole (start_of given) [] (Runs.start given)
+unfolding page_by register_by
+whole_up given s = record {
   page = refl;
   register = refl;
   settled = settled_up;
   link = link_up;
-  stood = stood-up;
-  reported = reported-up;
-  counted = counted-up given s.given-proper s.six;
-  noticed = noticed-up given;
-  row = rowed-up;
-  sequence = sequenced-up (start_of given);
+  stood = stood_up;
+  reported = reported_up;
+  counted = counted_up given s.given_proper s.six;
+  noticed = noticed_up given;
+  row = rowed_up;
+  sequence = sequenced_up (start_of given);
 }
 
 -- its instance, with counters and addresses of 0
-zero-whole : Whole (start_of (Runs.allAt 0)) [] (Runs.start (Runs.allAt 0))
-zero-whole = whole-up (Runs.allAt 0) zero-supplied
+zero_whole : Whole (start_of (Runs.all_at 0)) [] (Runs.start (Runs.all_at 0))
+zero_whole = whole_up (Runs.all_at 0) zero_supplied

@@ -3,14 +3,14 @@
 --   history, run == its histories and runs
 -- Assumes nothing.
 use Rattle.std.specs.Prelude.{ℕ, List}
-use Rattle.himib.specs.Runs.{Point, Happening, Model, historyOf, run_of}
+use Rattle.himib.specs.Runs.{Point, Happening, Model, history_of, run_of}
 use Rattle.pass.specs.Judged as pass
 
 abbrev pub happens : Model
 happens p r = pass.happens p r
 
 abbrev pub history : Point → List (List ℕ) → List Happening
-history = historyOf happens
+history = history_of happens
 
 abbrev pub run : Point → List (List ℕ) → Point
 run = run_of happens

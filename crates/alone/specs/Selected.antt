@@ -5,14 +5,14 @@
 use Rattle.std.specs.Prelude.{ℕ, suc, ◌%◌, ◌<◌, ◌≡◌, false, List, [], length, get_or}
 use Rattle.host.specs.declared.Host.{Host}
 use Rattle.host.specs.declared.Row.{Row}
-use Rattle.host.specs.Sequence.{placeFor}
-use Rattle.access.specs.Access.{selectedBy}
-use Rattle.past.specs.Deeds.{Deed, bursts, pulses, ticks, commands, uses, resets, refused, Use, selectsP, selectsR, allows, addresses, asks, reads}
-use Rattle.past.specs.Reads.{Start, byteBy, readsInARow}
+use Rattle.host.specs.Sequence.{place_for}
+use Rattle.access.specs.Access.{selected_by}
+use Rattle.past.specs.Deeds.{Deed, bursts, pulses, ticks, commands, uses, resets, refused, Use, selects_p, selects_r, allows, addresses, asks, reads}
+use Rattle.past.specs.Reads.{Start, byte_by, reads_in_a_row}
 
 abbrev pub StandsUse : Row → Use → Type 0
-StandsUse row (selectsP n) = Unit
-StandsUse row (selectsR n) = Unit
+StandsUse row (selects_p n) = Unit
+StandsUse row (selects_r n) = Unit
 StandsUse row (allows k b) = row.size ≡ 1
 StandsUse row (addresses i b) = row.size ≡ 6
 StandsUse row asks = Unit
@@ -22,12 +22,12 @@ abbrev pub StandsOn : Row → Deed → Type 0
 StandsOn row (bursts b source) = Unit
 StandsOn row (pulses mask) = Unit
 StandsOn row ticks = Unit
-StandsOn row (commands throughG c) = row.size ≡ 1
+StandsOn row (commands through_g c) = row.size ≡ 1
 StandsOn row (uses u) = StandsUse row u
 StandsOn row resets = Unit
 StandsOn row (refused k) = Unit
 
 pub record Sequenced (start : Start) (past : List Deed) (h : Host) : Type 0 where
-  pub place : (n : ℕ) → (selectedBy h).size ≡ suc n → placeFor false (suc n) h ≡ length (readsInARow past) % suc n
-  pub held : (n k : ℕ) → (selectedBy h).size ≡ suc n → length (readsInARow past) % suc n ≡ suc k
-      → (i : ℕ) → i < suc n → get_or h.bytes i 0 ≡ byteBy start (get_or (readsInARow past) k []) (selectedBy h).register i
+  pub place : (n : ℕ) → (selected_by h).size ≡ suc n → place_for false (suc n) h ≡ length (reads_in_a_row past) % suc n
+  pub held : (n k : ℕ) → (selected_by h).size ≡ suc n → length (reads_in_a_row past) % suc n ≡ suc k
+      → (i : ℕ) → i < suc n → get_or h.bytes i 0 ≡ byte_by start (get_or (reads_in_a_row past) k []) (selected_by h).register i

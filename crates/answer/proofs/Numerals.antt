@@ -1,7 +1,7 @@
 -- What numerals stand for: the decimal one of n is read as n, has no leading zero and consists of decimal digits; the last k hexadecimal
 -- digits of v are read as v modulo 16 ^ k. Assumes nothing.
---   decimal-read, decimal-zero, decimal-lead, decimal-digits == the usual decimal numeral
---   hex-read, hex-length == the last k hexadecimal digits
+--   decimal_read, decimal_zero, decimal_lead, decimal_digits == the usual decimal numeral
+--   hex_read, hex_length == the last k hexadecimal digits
 use Prim.Native.Nat.{ℕ, zero, suc, ◌+◌, ◌*◌, ◌-◌, ◌/◌, ◌%◌, ◌^◌, ◌≤◌, ◌<◌}
 use mathlib.Core.Path.{◌≡◌, refl, sym, ◌∙◌}
 use mathlib.Core.Bool.{Bool, true, false, ◌&&◌, false≢true}
@@ -13,25 +13,25 @@ use lib.Arith.{mod-mul}
 use lib.Dec.{ltb, eqb}
 use lib.ListN.{length, length-append, get_or, get_or-append}
 use lib.Seq.{get_or-append_seam}
-use Rattle.answer.specs.Numerals.{digit, decimal, glyphs, hex, worth, readBehind, readAs}
-use Rattle.answer.proofs.Digits.{decimal-small, decimal-more, decimal-length-pos}
+use Rattle.answer.specs.Numerals.{digit, decimal, glyphs, hex, worth, read_behind, read_as}
+use Rattle.answer.proofs.Digits.{decimal_small, decimal_more, decimal_length_pos}
 
 -- one digit more
-read_more : (b n : ℕ) (cs : List ℕ) (c : ℕ) → readBehind b n (cs ++ (c ∷ [])) ≡ b * readBehind b n cs + worth c
-unfolding readBehind
+read_more : (b n : ℕ) (cs : List ℕ) (c : ℕ) → read_behind b n (cs ++ (c ∷ [])) ≡ b * read_behind b n cs + worth c
+unfolding read_behind
 read_more b n [] c = refl
 read_more b n (x ∷ cs) c = read_more b (b * n + worth x) cs c
 
-sixteen-pos : (k : ℕ) → 0 < 16 ^ k
-sixteen-pos zero = omega arith
-sixteen-pos (suc k) = rw (pow-suc 16 k) (let h : 0 < 16 ^ k = sixteen-pos k in omega arith)
+sixteen_pos : (k : ℕ) → 0 < 16 ^ k
+sixteen_pos zero = omega arith
+sixteen_pos (suc k) = rw (pow-suc 16 k) (let h : 0 < 16 ^ k = sixteen_pos k in omega arith)
 
-worth-digit : (d : ℕ) → d < 10 → worth (digit d) ≡ d
-worth-digit d h = rw (lt-ltb (48 + d) 58 (omega arith)) (omega arith)
+worth_digit : (d : ℕ) → d < 10 → worth (digit d) ≡ d
+worth_digit d h = rw (lt-ltb (48 + d) 58 (omega arith)) (omega arith)
 
 -- what holds of a number below ten, and of a number if it holds of its tenth part, holds of every number
-pub by-tenths : (P : ℕ → Type 0) → ((n : ℕ) → n < 10 → P n) → ((n : ℕ) → 10 ≤ n → P (n / 10) → P n) → (n : ℕ) → P n
-by-tenths P small more n = below (suc n) n (omega arith)
+pub by_tenths : (P : ℕ → Type 0) → ((n : ℕ) → n < 10 → P n) → ((n : ℕ) → 10 ≤ n → P (n / 10) → P n) → (n : ℕ) → P n
+by_tenths P small more n = below (suc n) n (omega arith)
   where
     below : (k m : ℕ) → m < k → P m
     below zero m h = absurd (omega arith)
@@ -41,38 +41,38 @@ by-tenths P small more n = below (suc n) n (omega arith)
         go true e ih = small m (ltb-true m 10 e)
         go false e ih = more m (ltb-false m 10 e) (ih (ltb-false m 10 e))
 
-pub decimal-read : (n : ℕ) → readAs 10 (decimal n) ≡ n
-unfolding readBehind
-decimal-read = by-tenths (λ n. readAs 10 (decimal n) ≡ n) small more
+pub decimal_read : (n : ℕ) → read_as 10 (decimal n) ≡ n
+unfolding read_behind
+decimal_read = by_tenths (λ n. read_as 10 (decimal n) ≡ n) small more
   where
-    small : (n : ℕ) → n < 10 → readAs 10 (decimal n) ≡ n
-    small n h = rw (decimal-small n h) (omega (arith, worth-digit n h))
+    small : (n : ℕ) → n < 10 → read_as 10 (decimal n) ≡ n
+    small n h = rw (decimal_small n h) (omega (arith, worth_digit n h))
 
-    more : (n : ℕ) → 10 ≤ n → readAs 10 (decimal (n / 10)) ≡ n / 10 → readAs 10 (decimal n) ≡ n
+    more : (n : ℕ) → 10 ≤ n → read_as 10 (decimal (n / 10)) ≡ n / 10 → read_as 10 (decimal n) ≡ n
     more n h ih =
-        rw (decimal-more n h, read_more 10 0 (decimal (n / 10)) (digit (n % 10)), ih, worth-digit (n % 10) (omega arith)) (omega arith)
+        rw (decimal_more n h, read_more 10 0 (decimal (n / 10)) (digit (n % 10)), ih, worth_digit (n % 10) (omega arith)) (omega arith)
 
-pub decimal-zero : decimal 0 ≡ 48 ∷ []
-decimal-zero = decimal-small 0 (omega arith)
+pub decimal_zero : decimal 0 ≡ 48 ∷ []
+decimal_zero = decimal_small 0 (omega arith)
 
-pub decimal-lead : (n : ℕ) → 0 < n → get_or (decimal n) 0 0 ≡ 48 → ⊥
-decimal-lead = by-tenths (λ n. 0 < n → get_or (decimal n) 0 0 ≡ 48 → ⊥) small more
+pub decimal_lead : (n : ℕ) → 0 < n → get_or (decimal n) 0 0 ≡ 48 → ⊥
+decimal_lead = by_tenths (λ n. 0 < n → get_or (decimal n) 0 0 ≡ 48 → ⊥) small more
   where
     small : (n : ℕ) → n < 10 → 0 < n → get_or (decimal n) 0 0 ≡ 48 → ⊥
-    small n h p e = let f : 48 + n ≡ 48 = rw (decimal-small n h) at e in omega arith
+    small n h p e = let f : 48 + n ≡ 48 = rw (decimal_small n h) at e in omega arith
 
     more : (n : ℕ) → 10 ≤ n → (0 < n / 10 → get_or (decimal (n / 10)) 0 0 ≡ 48 → ⊥) → 0 < n → get_or (decimal n) 0 0 ≡ 48 → ⊥
     more n h ih p e =
         ih (omega arith)
-        (sym (get_or-append (decimal (n / 10)) (digit (n % 10) ∷ []) 0 0 (decimal-length-pos (n / 10)))
-        ∙ (rw (decimal-more n h) at e))
+        (sym (get_or-append (decimal (n / 10)) (digit (n % 10) ∷ []) 0 0 (decimal_length_pos (n / 10)))
+        ∙ (rw (decimal_more n h) at e))
 
-pub decimal-digits : (n i : ℕ) → i < length (decimal n) → (48 ≤ get_or (decimal n) i 0) × (get_or (decimal n) i 0 ≤ 57)
-decimal-digits = by-tenths (λ n. (i : ℕ) → i < length (decimal n) → (48 ≤ get_or (decimal n) i 0) × (get_or (decimal n) i 0 ≤ 57)) small more
+pub decimal_digits : (n i : ℕ) → i < length (decimal n) → (48 ≤ get_or (decimal n) i 0) × (get_or (decimal n) i 0 ≤ 57)
+decimal_digits = by_tenths (λ n. (i : ℕ) → i < length (decimal n) → (48 ≤ get_or (decimal n) i 0) × (get_or (decimal n) i 0 ≤ 57)) small more
   where
     small : (n : ℕ) → n < 10 → (i : ℕ) → i < length (decimal n) → (48 ≤ get_or (decimal n) i 0) × (get_or (decimal n) i 0 ≤ 57)
-    small n h zero l = rw (decimal-small n h) (omega arith)
-    small n h (suc i) l = let k : suc i < 1 = rw (decimal-small n h) at l in absurd (omega arith)
+    small n h zero l = rw (decimal_small n h) (omega arith)
+    small n h (suc i) l = let k : suc i < 1 = rw (decimal_small n h) at l in absurd (omega arith)
 
     more : (n : ℕ) → 10 ≤ n
         → ((i : ℕ) → i < length (decimal (n / 10)) → (48 ≤ get_or (decimal (n / 10)) i 0) × (get_or (decimal (n / 10)) i 0 ≤ 57))
@@ -86,13 +86,13 @@ decimal-digits = by-tenths (λ n. (i : ℕ) → i < length (decimal n) → (48 �
         last = digit (n % 10)
 
         count : i < length ds + 1
-        count = rw (decimal-more n h, length-append ds (last ∷ [])) at l
+        count = rw (decimal_more n h, length-append ds (last ∷ [])) at l
 
         go : (b : Bool) → ltb i (length ds) ≡ b → (48 ≤ get_or (decimal n) i 0) × (get_or (decimal n) i 0 ≤ 57)
-        go true e = rw (decimal-more n h, get_or-append ds (last ∷ []) 0 i (ltb-true i (length ds) e)) (ih i (ltb-true i (length ds) e))
+        go true e = rw (decimal_more n h, get_or-append ds (last ∷ []) 0 i (ltb-true i (length ds) e)) (ih i (ltb-true i (length ds) e))
         go false e =
-            let at-end : i ≡ length ds = omega (arith, ltb-false i (length ds) e, count) in
-            rw (decimal-more n h, at-end, get_or-append_seam ds last [] 0) (omega arith)
+            let at_end : i ≡ length ds = omega (arith, ltb-false i (length ds) e, count) in
+            rw (decimal_more n h, at_end, get_or-append_seam ds last [] 0) (omega arith)
 
 -- a test that holds of every number below k
 abbrev pub all_below : ℕ → (ℕ → Bool) → Bool
@@ -112,22 +112,22 @@ below_holds (suc k) f t d h = go (f k) (all_below k f) refl refl t (below_holds 
     go true false p q r ih = absurd (false≢true r)
     go false b p q r ih = absurd (false≢true r)
 
-worth-glyph : (d : ℕ) → d < 16 → worth (get_or glyphs d 0) ≡ d
-worth-glyph d h = eqb-true (worth (get_or glyphs d 0)) d (below_holds 16 (λ d. eqb (worth (get_or glyphs d 0)) d) refl d h)
+worth_glyph : (d : ℕ) → d < 16 → worth (get_or glyphs d 0) ≡ d
+worth_glyph d h = eqb-true (worth (get_or glyphs d 0)) d (below_holds 16 (λ d. eqb (worth (get_or glyphs d 0)) d) refl d h)
 
-pub hex-read : (k v : ℕ) → readAs 16 (hex k v) ≡ v % 16 ^ k
-unfolding readBehind
-hex-read zero v = omega arith
-hex-read (suc k) v =
+pub hex_read : (k v : ℕ) → read_as 16 (hex k v) ≡ v % 16 ^ k
+unfolding read_behind
+hex_read zero v = omega arith
+hex_read (suc k) v =
     rw (
       read_more 16 0 (hex k (v / 16)) (get_or glyphs (v % 16) 0),
-      hex-read k (v / 16),
-      worth-glyph (v % 16) (omega arith),
+      hex_read k (v / 16),
+      worth_glyph (v % 16) (omega arith),
       pow-suc 16 k,
-      mod-mul v {m = 16 ^ k} {c = 16} (sixteen-pos k) (omega arith),
+      mod-mul v {m = 16 ^ k} {c = 16} (sixteen_pos k) (omega arith),
     )
     (omega arith)
 
-pub hex-length : (k v : ℕ) → length (hex k v) ≡ k
-hex-length zero v = refl
-hex-length (suc k) v = rw (length-append (hex k (v / 16)) (get_or glyphs (v % 16) 0 ∷ []), hex-length k (v / 16)) (omega arith)
+pub hex_length : (k v : ℕ) → length (hex k v) ≡ k
+hex_length zero v = refl
+hex_length (suc k) v = rw (length-append (hex k (v / 16)) (get_or glyphs (v % 16) 0 ∷ []), hex_length k (v / 16)) (omega arith)

@@ -1,5 +1,5 @@
 -- Laws of `Put`: what straight stores leave, and pieces that are put one behind the other. Assumes nothing.
---   two-put, four-put == stores at neighbouring places
+--   two_put, four_put == stores at neighbouring places
 --   put_then   == one piece behind another is the two pieces together
 --   put_as     == the same bytes, written otherwise
 use Prim.Native.Nat.{ℕ, suc, ◌+◌}
@@ -12,14 +12,14 @@ use lib.Seq.{sets}
 use Rattle.answer.specs.Put.{Put}
 
 -- stores at neighbouring places
-pub two-put : (old : List ℕ) (at a b : ℕ) → Put old at (a ∷ b ∷ []) (set (set old at a) (at + 1) b) (at + 2)
-two-put old at a b = record { next = refl; bytes = rw (second) }
+pub two_put : (old : List ℕ) (at a b : ℕ) → Put old at (a ∷ b ∷ []) (set (set old at a) (at + 1) b) (at + 2)
+two_put old at a b = record { next = refl; bytes = rw (second) }
   where
     second : at + 1 ≡ suc at
     second = omega arith
 
-pub four-put : (old : List ℕ) (at a b c d : ℕ) → Put old at (a ∷ b ∷ c ∷ d ∷ []) (set (set (set (set old at a) (at + 1) b) (at + 2) c) (at + 3) d) (at + 4)
-four-put old at a b c d = record { next = refl; bytes = rw (second, third, fourth) }
+pub four_put : (old : List ℕ) (at a b c d : ℕ) → Put old at (a ∷ b ∷ c ∷ d ∷ []) (set (set (set (set old at a) (at + 1) b) (at + 2) c) (at + 3) d) (at + 4)
+four_put old at a b c d = record { next = refl; bytes = rw (second, third, fourth) }
   where
     second : at + 1 ≡ suc at
     second = omega arith

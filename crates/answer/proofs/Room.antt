@@ -1,5 +1,5 @@
 -- Whether there is room for a line, and what follows. Assumes nothing.
---   room, past_end, short-of-room == the three cases
+--   room, past_end, short_of_room == the three cases
 --   written, unwritten == what `put_line` shows with room and without
 use Prim.Native.Nat.{ℕ, ◌+◌, ◌-◌, ◌≤◌, ◌<◌}
 use mathlib.Core.Path.{◌≡◌, ◌∙◌}
@@ -11,28 +11,28 @@ use lib.ListN.{length}
 use lib.Seq.{sets-eq}
 use Rattle.answer.specs.declared.Answer.{Answer}
 use Rattle.answer.specs.Line.{line_of}
-use Rattle.answer.specs.Put.{Put, WrittenLine, hasRoom, laid, afterLine, withLine}
+use Rattle.answer.specs.Put.{Put, WrittenLine, has_room, laid, after_line, with_line}
 
-pub room : (old : List ℕ) (at : ℕ) → at ≤ length old → 32 ≤ length old - at → hasRoom old at ≡ true
-unfolding hasRoom
+pub room : (old : List ℕ) (at : ℕ) → at ≤ length old → 32 ≤ length old - at → has_room old at ≡ true
+unfolding has_room
 room old at h k = simp (le-leb _ _ h, le-leb _ _ k)
 
-pub past_end : (old : List ℕ) (at : ℕ) → length old < at → hasRoom old at ≡ false
-unfolding hasRoom
+pub past_end : (old : List ℕ) (at : ℕ) → length old < at → has_room old at ≡ false
+unfolding has_room
 past_end old at h = simp (lt-leb _ _ h)
 
-pub short-of-room : (old : List ℕ) (at : ℕ) → at ≤ length old → length old - at < 32 → hasRoom old at ≡ false
-unfolding hasRoom
-short-of-room old at h k = simp (le-leb _ _ h, lt-leb _ _ k)
+pub short_of_room : (old : List ℕ) (at : ℕ) → at ≤ length old → length old - at < 32 → has_room old at ≡ false
+unfolding has_room
+short_of_room old at h k = simp (le-leb _ _ h, lt-leb _ _ k)
 
 pub written : {old new : List ℕ} {at n r : ℕ} {a : Answer} → at ≤ length old → 32 ≤ length old - at → Put old at (line_of n a) new r → r ≤ at + 29
     → WrittenLine old at n a new r
-unfolding afterLine withLine laid
+unfolding after_line with_line laid
 written {old} {new} {at} {n} {r} {a} h k p s =
-    let yes : hasRoom old at ≡ true = room old at h k in
+    let yes : has_room old at ≡ true = room old at h k in
     let inside : at + length (line_of n a) ≤ length old = omega (arith, p.next) in
     record { next = rw yes p.next; bytes = rw yes (p.bytes ∙ sets-eq (line_of n a) old at inside); short = s }
 
-pub unwritten : (old : List ℕ) (at n : ℕ) (a : Answer) → hasRoom old at ≡ false → WrittenLine old at n a old at
-unfolding afterLine withLine
+pub unwritten : (old : List ℕ) (at n : ℕ) (a : Answer) → has_room old at ≡ false → WrittenLine old at n a old at
+unfolding after_line with_line
 unwritten old at n a full = record { next = rw full; bytes = rw full; short = omega arith }

@@ -1,9 +1,9 @@
 -- The printed lines tell the answers apart, and tell nothing else. Assumes nothing.
 --   apart, alike == two lists of answers with different lines, and two with the same lines, computed
 --   cut_at       == what stands before the first newline, and what stands behind it
---   told-said    == the answer is read back from a word and what stands behind it
---   shown-said   == nothing is said of an answer but what is shown of it
---   lines-tell   == so do the lines of a list of answers
+--   told_said    == the answer is read back from a word and what stands behind it
+--   shown_said   == nothing is said of an answer but what is shown of it
+--   lines_tell   == so do the lines of a list of answers
 use Prim.Native.Nat.{ℕ, suc, ◌+◌, ◌/◌, ◌%◌}
 use mathlib.Core.Path.{◌≡◌, refl, ap, sym, ◌∙◌}
 use mathlib.Core.Bool.{cond}
@@ -16,24 +16,24 @@ use Rattle.burst.specs.declared.Word.TheVariants.{Nil, Rep, Jam}
 use Rattle.answer.specs.declared.Answer.{Answer}
 use Rattle.answer.specs.declared.Answer.TheVariants.{Done, Sent, Value, Refused}
 use Rattle.answer.specs.Text.{ascii}
-use Rattle.answer.specs.Numerals.{numeral, decimal, hex, readAs}
-use Rattle.answer.specs.Line.{space, newline, named, said_of, tailOf, line_of, lines_of, newlines, shownOf, LinesTell}
-use Rattle.answer.proofs.Numerals.{decimal-read, hex-read}
-use Rattle.answer.proofs.Newlines.{said-none, decimal-none, said-has-none, line-ends, lines-newlines}
+use Rattle.answer.specs.Numerals.{numeral, decimal, hex, read_as}
+use Rattle.answer.specs.Line.{space, newline, named, said_of, tail_of, line_of, lines_of, newlines, shown_of, LinesTell}
+use Rattle.answer.proofs.Numerals.{decimal_read, hex_read}
+use Rattle.answer.proofs.Newlines.{said_none, decimal_none, said_has_none, line_ends, lines_newlines}
 
 -- INSTANCES
 
 -- a byte that differs in its first digit, and a mask that goes with jam or with data: all of both is shown
 apart : (lines_of 7 (Value 0x12 ∷ Sent Jam 0x103 ∷ []) ≡ ascii "7 val 12\n8 jam 103\n")
     × (lines_of 7 (Value 0x22 ∷ Sent Rep 0x103 ∷ []) ≡ ascii "7 val 22\n8 rep 103\n")
-    × (map shownOf (Value 0x12 ∷ Sent Jam 0x103 ∷ []) ≡ Value 0x12 ∷ Sent Jam 0x103 ∷ [])
-    × (map shownOf (Value 0x22 ∷ Sent Rep 0x103 ∷ []) ≡ Value 0x22 ∷ Sent Rep 0x103 ∷ [])
-unfolding numeral decimal said_of tailOf line_of lines_of
+    × (map shown_of (Value 0x12 ∷ Sent Jam 0x103 ∷ []) ≡ Value 0x12 ∷ Sent Jam 0x103 ∷ [])
+    × (map shown_of (Value 0x22 ∷ Sent Rep 0x103 ∷ []) ≡ Value 0x22 ∷ Sent Rep 0x103 ∷ [])
+unfolding numeral decimal said_of tail_of line_of lines_of
 apart = (refl, refl, refl, refl)
 
 -- masks that differ above twelve bits show the same
-alike : (lines_of 7 (Sent Rep 0x1def ∷ []) ≡ lines_of 7 (Sent Rep 0xdef ∷ [])) × (map shownOf (Sent Rep 0x1def ∷ []) ≡ map shownOf (Sent Rep 0xdef ∷ []))
-unfolding numeral decimal said_of tailOf line_of lines_of
+alike : (lines_of 7 (Sent Rep 0x1def ∷ []) ≡ lines_of 7 (Sent Rep 0xdef ∷ [])) × (map shown_of (Sent Rep 0x1def ∷ []) ≡ map shown_of (Sent Rep 0xdef ∷ []))
+unfolding numeral decimal said_of tail_of line_of lines_of
 alike = (refl, refl)
 
 -- ONE LINE
@@ -55,31 +55,31 @@ cancel [] ys zs e = e
 cancel (x ∷ xs) ys zs e = let t : xs ++ ys ≡ xs ++ zs = cc in cancel xs ys zs t
 
 -- An answer read back from a word and what stands behind it: the first letter tells the words apart, and the third one rep from ref.
-abbrev wordTold : ℕ → Word
-wordTold c = cond (eqb c 110) Nil (cond (eqb c 106) Jam Rep)
+abbrev word_told : ℕ → Word
+word_told c = cond (eqb c 110) Nil (cond (eqb c 106) Jam Rep)
 
 abbrev told : List ℕ → Answer
 told cs =
     cond (eqb (get_or cs 0 0) 111) Done
-    (cond (eqb (get_or cs 0 0) 118) (Value (readAs 16 (drop 4 cs)))
-    (cond (eqb (get_or cs 2 0) 102) (Refused (readAs 10 (drop 4 cs)))
-    (Sent (wordTold (get_or cs 0 0)) (readAs 16 (drop 4 cs)))))
+    (cond (eqb (get_or cs 0 0) 118) (Value (read_as 16 (drop 4 cs)))
+    (cond (eqb (get_or cs 2 0) 102) (Refused (read_as 10 (drop 4 cs)))
+    (Sent (word_told (get_or cs 0 0)) (read_as 16 (drop 4 cs)))))
 
-told-said : (a : Answer) → told (said_of a) ≡ shownOf a
+told_said : (a : Answer) → told (said_of a) ≡ shown_of a
 unfolding said_of
-told-said Done = refl
-told-said (Sent Nil m) = ap (λ (k : ℕ). Sent Nil k) (hex-read 3 m)
-told-said (Sent Rep m) = ap (λ (k : ℕ). Sent Rep k) (hex-read 3 m)
-told-said (Sent Jam m) = ap (λ (k : ℕ). Sent Jam k) (hex-read 3 m)
-told-said (Value v) = ap (λ (k : ℕ). Value k) (hex-read 2 v)
-told-said (Refused k) = ap (λ (n : ℕ). Refused n) (decimal-read k)
+told_said Done = refl
+told_said (Sent Nil m) = ap (λ (k : ℕ). Sent Nil k) (hex_read 3 m)
+told_said (Sent Rep m) = ap (λ (k : ℕ). Sent Rep k) (hex_read 3 m)
+told_said (Sent Jam m) = ap (λ (k : ℕ). Sent Jam k) (hex_read 3 m)
+told_said (Value v) = ap (λ (k : ℕ). Value k) (hex_read 2 v)
+told_said (Refused k) = ap (λ (n : ℕ). Refused n) (decimal_read k)
 
-said-tells : (a b : Answer) → said_of a ≡ said_of b → shownOf a ≡ shownOf b
-said-tells a b e = sym (told-said a) ∙ ap told e ∙ told-said b
+said_tells : (a b : Answer) → said_of a ≡ said_of b → shown_of a ≡ shown_of b
+said_tells a b e = sym (told_said a) ∙ ap told e ∙ told_said b
 
 -- what is not shown is not said
-three-digits : (m : ℕ) → hex 3 m ≡ hex 3 (m % 4096)
-three-digits m =
+three_digits : (m : ℕ) → hex 3 m ≡ hex 3 (m % 4096)
+three_digits m =
     let h : m / 16 / 16 % 16 ≡ m % 4096 / 16 / 16 % 16 = omega arith in
     let k : m / 16 % 16 ≡ m % 4096 / 16 % 16 = omega arith in
     let l : m % 16 ≡ m % 4096 % 16 = omega arith in
@@ -91,44 +91,44 @@ two_digits v =
     let l : v % 16 ≡ v % 256 % 16 = omega arith in
     rw (k, l)
 
-shown-said : (a : Answer) → said_of a ≡ said_of (shownOf a)
+shown_said : (a : Answer) → said_of a ≡ said_of (shown_of a)
 unfolding said_of
-shown-said Done = refl
-shown-said (Sent w m) = ap (λ (cs : List ℕ). named w ++ space ∷ cs) (three-digits m)
-shown-said (Value v) = ap (λ (cs : List ℕ). ascii "val" ++ space ∷ cs) (two_digits v)
-shown-said (Refused k) = refl
+shown_said Done = refl
+shown_said (Sent w m) = ap (λ (cs : List ℕ). named w ++ space ∷ cs) (three_digits m)
+shown_said (Value v) = ap (λ (cs : List ℕ). ascii "val" ++ space ∷ cs) (two_digits v)
+shown_said (Refused k) = refl
 
 -- LISTS
 
 -- the first line, and those behind it
 parted : (n : ℕ) (a : Answer) (more : List Answer) → lines_of n (a ∷ more) ≡ (decimal n ++ space ∷ said_of a) ++ newline ∷ lines_of (n + 1) more
 unfolding lines_of
-parted n a more = rw (line-ends n a) (append_assoc (decimal n ++ space ∷ said_of a) (newline ∷ []) (lines_of (n + 1) more))
+parted n a more = rw (line_ends n a) (append_assoc (decimal n ++ space ∷ said_of a) (newline ∷ []) (lines_of (n + 1) more))
 
-number-none : (n : ℕ) (a : Answer) → newlines (decimal n ++ space ∷ said_of a) ≡ 0
-number-none n a = said-none (decimal n) (said_of a) (decimal-none n) (said-has-none a)
+number_none : (n : ℕ) (a : Answer) → newlines (decimal n ++ space ∷ said_of a) ≡ 0
+number_none n a = said_none (decimal n) (said_of a) (decimal_none n) (said_has_none a)
 
-apart-by-lines : (n : ℕ) (these those : List Answer) → lines_of n these ≡ lines_of n those → map shownOf these ≡ map shownOf those
-apart-by-lines n [] [] e = refl
-apart-by-lines n [] (b ∷ those) e =
-    let h : 0 ≡ suc (length those) = sym (lines-newlines n []) ∙ ap newlines e ∙ lines-newlines n (b ∷ those) in absurd (omega arith)
-apart-by-lines n (a ∷ these) [] e =
-    let h : suc (length these) ≡ 0 = sym (lines-newlines n (a ∷ these)) ∙ ap newlines e ∙ lines-newlines n [] in absurd (omega arith)
-apart-by-lines n (a ∷ these) (b ∷ those) e =
+apart_by_lines : (n : ℕ) (these those : List Answer) → lines_of n these ≡ lines_of n those → map shown_of these ≡ map shown_of those
+apart_by_lines n [] [] e = refl
+apart_by_lines n [] (b ∷ those) e =
+    let h : 0 ≡ suc (length those) = sym (lines_newlines n []) ∙ ap newlines e ∙ lines_newlines n (b ∷ those) in absurd (omega arith)
+apart_by_lines n (a ∷ these) [] e =
+    let h : suc (length these) ≡ 0 = sym (lines_newlines n (a ∷ these)) ∙ ap newlines e ∙ lines_newlines n [] in absurd (omega arith)
+apart_by_lines n (a ∷ these) (b ∷ those) e =
     let k =
-    cut_at (decimal n ++ space ∷ said_of a) (decimal n ++ space ∷ said_of b) (lines_of (n + 1) these) (lines_of (n + 1) those) (number-none n a)
-    (number-none n b) (sym (parted n a these) ∙ e ∙ parted n b those) in
+    cut_at (decimal n ++ space ∷ said_of a) (decimal n ++ space ∷ said_of b) (lines_of (n + 1) these) (lines_of (n + 1) those) (number_none n a)
+    (number_none n b) (sym (parted n a these) ∙ e ∙ parted n b those) in
     let t : space ∷ said_of a ≡ space ∷ said_of b = cancel (decimal n) (space ∷ said_of a) (space ∷ said_of b) k.0 in
     let s : said_of a ≡ said_of b = cc in
-    let u : shownOf a ≡ shownOf b = said-tells a b s in
-    let v : map shownOf these ≡ map shownOf those = apart-by-lines (n + 1) these those k.1 in
+    let u : shown_of a ≡ shown_of b = said_tells a b s in
+    let v : map shown_of these ≡ map shown_of those = apart_by_lines (n + 1) these those k.1 in
     cc
 
-lines-shown : (n : ℕ) (these : List Answer) → lines_of n these ≡ lines_of n (map shownOf these)
-unfolding lines_of line_of tailOf
-lines-shown n [] = refl
-lines-shown n (a ∷ these) = rw (← shown-said a, ← lines-shown (n + 1) these)
+lines_shown : (n : ℕ) (these : List Answer) → lines_of n these ≡ lines_of n (map shown_of these)
+unfolding lines_of line_of tail_of
+lines_shown n [] = refl
+lines_shown n (a ∷ these) = rw (← shown_said a, ← lines_shown (n + 1) these)
 
-pub lines-tell : LinesTell
-lines-tell n these those =
-    (apart-by-lines n these those, λ e. lines-shown n these ∙ ap (lines_of n) e ∙ sym (lines-shown n those))
+pub lines_tell : LinesTell
+lines_tell n these those =
+    (apart_by_lines n these those, λ e. lines_shown n these ∙ ap (lines_of n) e ∙ sym (lines_shown n those))

@@ -4,11 +4,11 @@
 -- is printed modulo 4096: one of nine ports is below that.
 --   named w    == the word of a burst
 --   said_of a   == the word of an answer, and what stands behind it
---   tailOf a   == the line from the space behind the number on
+--   tail_of a   == the line from the space behind the number on
 --   line_of n a == the line of record n
 --   lines_of n answers == the lines of answers, one after the other, the first one that of record n
 --   newlines cs == how many newlines there are among bytes
---   shownOf a  == what a line shows of an answer: its mask modulo 4096, its byte modulo 256, and all else
+--   shown_of a  == what a line shows of an answer: its mask modulo 4096, its byte modulo 256, and all else
 --   LinesTell  == the lines of two lists of answers are the same exactly if they show the same answers
 -- Assumes nothing.
 use Rattle.std.specs.Prelude.{ℕ, ◌+◌, ◌%◌, ◌≡◌, cond, List, [], ◌∷◌, ◌++◌, map, eqb}
@@ -36,11 +36,11 @@ said_of (Sent word mask) = named word ++ space ∷ hex 3 mask
 said_of (Value byte) = ascii "val" ++ space ∷ hex 2 byte
 said_of (Refused number) = ascii "ref" ++ space ∷ decimal number
 
-unfoldable pub tailOf : Answer → List ℕ
-tailOf a = space ∷ said_of a ++ (newline ∷ [])
+unfoldable pub tail_of : Answer → List ℕ
+tail_of a = space ∷ said_of a ++ (newline ∷ [])
 
 unfoldable pub line_of : ℕ → Answer → List ℕ
-line_of n a = decimal n ++ tailOf a
+line_of n a = decimal n ++ tail_of a
 
 unfoldable pub lines_of : ℕ → List Answer → List ℕ
 lines_of n [] = []
@@ -50,14 +50,14 @@ unfoldable pub newlines : List ℕ → ℕ
 newlines [] = 0
 newlines (c ∷ cs) = cond (eqb c newline) 1 0 + newlines cs
 
-abbrev pub shownOf : Answer → Answer
-shownOf Done = Done
-shownOf (Sent word mask) = Sent word (mask % 4096)
-shownOf (Value byte) = Value (byte % 256)
-shownOf (Refused number) = Refused number
+abbrev pub shown_of : Answer → Answer
+shown_of Done = Done
+shown_of (Sent word mask) = Sent word (mask % 4096)
+shown_of (Value byte) = Value (byte % 256)
+shown_of (Refused number) = Refused number
 
 abbrev pub LinesTell : Type 0
 LinesTell =
     (n : ℕ) (these those : List Answer)
-    → (lines_of n these ≡ lines_of n those → map shownOf these ≡ map shownOf those)
-    × (map shownOf these ≡ map shownOf those → lines_of n these ≡ lines_of n those)
+    → (lines_of n these ≡ lines_of n those → map shown_of these ≡ map shown_of those)
+    × (map shown_of these ≡ map shown_of those → lines_of n these ≡ lines_of n those)

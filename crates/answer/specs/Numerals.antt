@@ -2,7 +2,7 @@
 -- Settles decimal numerals without leading zeros (0 is written 0) and hexadecimal ones, in lower case, of a given number of digits.
 --   decimal n   == the decimal numeral of n
 --   hex k v     == the last k hexadecimal digits of v
---   readAs b cs == the number that the numeral cs stands for in base b: what the two above amount to is said with it
+--   read_as b cs == the number that the numeral cs stands for in base b: what the two above amount to is said with it
 -- Assumes nothing.
 use Rattle.std.specs.Prelude.{ℕ, zero, suc, ◌+◌, ◌*◌, ◌-◌, ◌/◌, ◌%◌, Bool, true, false, cond, List, [], ◌∷◌, ◌++◌, ltb, get_or}
 use Rattle.answer.specs.Text.{ascii}
@@ -34,9 +34,9 @@ abbrev pub worth : ℕ → ℕ
 worth c = cond (ltb c 58) (c - 48) (c - 87)
 
 -- digits that are read behind the number n
-unfoldable pub readBehind : ℕ → ℕ → List ℕ → ℕ
-readBehind b n [] = n
-readBehind b n (c ∷ cs) = readBehind b (b * n + worth c) cs
+unfoldable pub read_behind : ℕ → ℕ → List ℕ → ℕ
+read_behind b n [] = n
+read_behind b n (c ∷ cs) = read_behind b (b * n + worth c) cs
 
-abbrev pub readAs : ℕ → List ℕ → ℕ
-readAs b cs = readBehind b 0 cs
+abbrev pub read_as : ℕ → List ℕ → ℕ
+read_as b cs = read_behind b 0 cs

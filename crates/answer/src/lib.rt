@@ -1,9 +1,9 @@
 // What a record is answered with, and the line that the run program prints for it. A line goes into a buffer that the caller lends.
 ghost use Rattle.std.specs.Prelude.{◌≡◌, [], ◌∷◌, ◌+◌, ◌*◌, ◌/◌, ◌≤◌, ◌<◌, length};
-ghost use Rattle.spelling.specs.Spelling.{leastFirst};
+ghost use Rattle.spelling.specs.Spelling.{least_first};
 ghost use Rattle.answer.specs.Numerals.{decimal, hex};
-ghost use Rattle.answer.specs.Line.{space, named, tailOf, line_of};
-ghost use Rattle.answer.specs.Put.{Put, WrittenLine, room, longestLine, padded};
+ghost use Rattle.answer.specs.Line.{space, named, tail_of, line_of};
+ghost use Rattle.answer.specs.Put.{Put, WrittenLine, room, longest_line, padded};
 
 use burst::Word;
 
@@ -47,7 +47,7 @@ pub fn put_line(out: &mut [u8], at: usize, number: u64, answer: Answer) -> usize
 fn put_whole(out: &mut [u8], at: usize, number: u64, answer: Answer) -> usize
     requires { at + room ≤ length out.old }
     ensures put { Put out.old at (line_of number answer) out.new result }
-    ensures upper_bound { result ≤ at + longestLine }
+    ensures upper_bound { result ≤ at + longest_line }
 {
     let next = put_decimal(out, at, number);
     put_tail(out, next, answer)
@@ -56,7 +56,7 @@ fn put_whole(out: &mut [u8], at: usize, number: u64, answer: Answer) -> usize
 // The line from the space behind the number on.
 fn put_tail(out: &mut [u8], at: usize, answer: Answer) -> usize
     requires { at + 9 ≤ length out.old }
-    ensures put { Put out.old at (tailOf answer) out.new result }
+    ensures put { Put out.old at (tail_of answer) out.new result }
     ensures upper_bound { result ≤ at + 9 }
 {
     match answer {
@@ -70,7 +70,7 @@ fn put_tail(out: &mut [u8], at: usize, answer: Answer) -> usize
 // The same for each kind of answer: a burst,
 fn put_sent(out: &mut [u8], at: usize, word: Word, mask: u16) -> usize
     requires { at + 9 ≤ length out.old }
-    ensures { Put out.old at (tailOf (Answer.Sent word mask)) out.new result }
+    ensures { Put out.old at (tail_of (Answer.Sent word mask)) out.new result }
 {
     let next = put_word(out, at, word);
     let last = put_mask(out, next, mask);
@@ -80,7 +80,7 @@ fn put_sent(out: &mut [u8], at: usize, word: Word, mask: u16) -> usize
 // a read,
 fn put_value(out: &mut [u8], at: usize, byte: u8) -> usize
     requires { at + 8 ≤ length out.old }
-    ensures { Put out.old at (tailOf (Answer.Value byte)) out.new result }
+    ensures { Put out.old at (tail_of (Answer.Value byte)) out.new result }
 {
     let glyphs = GLYPHS;
     let high = glyphs[(byte / 16 % 16) as usize];
@@ -92,7 +92,7 @@ fn put_value(out: &mut [u8], at: usize, byte: u8) -> usize
 // and a refusal.
 fn put_refused(out: &mut [u8], at: usize, number: u8) -> usize
     requires { at + 9 ≤ length out.old }
-    ensures { Put out.old at (tailOf (Answer.Refused number)) out.new result }
+    ensures { Put out.old at (tail_of (Answer.Refused number)) out.new result }
 {
     let next = put_text(out, at, b' ', b'r', b'e', b'f');
     let first = put_byte(out, next, b' ');
@@ -248,7 +248,7 @@ fn put_text(out: &mut [u8], at: usize, a: u8, b: u8, c: u8, d: u8) -> usize
 // The four bytes of a number, the least significant first: the compiler makes one store of them.
 fn put_four_bytes(out: &mut [u8], at: usize, spelt: u32) -> usize
     requires { at + 4 ≤ length out.old }
-    ensures { Put out.old at (leastFirst 4 spelt) out.new result }
+    ensures { Put out.old at (least_first 4 spelt) out.new result }
 {
     out[at] = (spelt % 256) as u8;
     out[at + 1] = (spelt / 256 % 256) as u8;
@@ -260,7 +260,7 @@ fn put_four_bytes(out: &mut [u8], at: usize, spelt: u32) -> usize
 // The two bytes of a number, the least significant first.
 fn put_two_bytes(out: &mut [u8], at: usize, spelt: u32) -> usize
     requires { at + 2 ≤ length out.old }
-    ensures { Put out.old at (leastFirst 2 spelt) out.new result }
+    ensures { Put out.old at (least_first 2 spelt) out.new result }
 {
     out[at] = (spelt % 256) as u8;
     out[at + 1] = (spelt / 256 % 256) as u8;

@@ -1,11 +1,11 @@
 -- Many readings of one counter, and what their differences add up to, computed. Assumes nothing.
---   the-totals  == Q-14's rows and their neighbours
---   the-answers == the last sum that 64 bits hold and the first that they do not; a sum that is carried on
+--   the_totals  == Q-14's rows and their neighbours
+--   the_answers == the last sum that 64 bits hold and the first that they do not; a sum that is carried on
 use Rattle.std.proofs.Common.{◌≡◌, [], ◌∷◌, refl}
 use Rattle.attributes.specs.declared.octets.Total.TheVariants.{Sum, TooLarge}
-use Rattle.attributes.specs.Octets.{totalAfter, total_of, answered, totalOn}
+use Rattle.attributes.specs.Octets.{total_after, total_of, answered, total_on}
 
-the-totals : (total_of [] ≡ 0)
+the_totals : (total_of [] ≡ 0)
     × (total_of (7 ∷ []) ≡ 0)
     × (total_of (7 ∷ 7 ∷ []) ≡ 0)
     × (total_of (7 ∷ 9 ∷ []) ≡ 2)
@@ -13,18 +13,18 @@ the-totals : (total_of [] ≡ 0)
     × (total_of (4294967295 ∷ 2 ∷ 1 ∷ []) ≡ 4294967298)
     × (total_of (0 ∷ 4294967295 ∷ 0 ∷ []) ≡ 4294967296)
     × (total_of (5 ∷ 4 ∷ 3 ∷ 10 ∷ []) ≡ 8589934597)
-unfolding total_of totalAfter
-the-totals = (refl, refl, refl, refl, refl, refl, refl, refl)
+unfolding total_of total_after
+the_totals = (refl, refl, refl, refl, refl, refl, refl, refl)
 
 -- the last sum that fits, and the first that does not
-the-answers : (answered 0 ≡ Sum 0)
+the_answers : (answered 0 ≡ Sum 0)
     × (answered 18446744073709551615 ≡ Sum 18446744073709551615)
     × (answered 18446744073709551616 ≡ TooLarge)
-    × (totalOn (Sum 18446744073709551615) 5 (5 ∷ []) ≡ Sum 18446744073709551615)
-    × (totalOn (Sum 18446744073709551615) 5 (6 ∷ []) ≡ TooLarge)
-    × (totalOn (Sum 18446744069414584320) 1 (0 ∷ []) ≡ Sum 18446744073709551615)
-    × (totalOn (Sum 18446744069414584321) 1 (0 ∷ []) ≡ TooLarge)
-    × (totalOn (Sum 3) 2 (1 ∷ []) ≡ Sum 4294967298)
-    × (totalOn TooLarge 5 (5 ∷ []) ≡ TooLarge)
-unfolding answered totalOn totalAfter
-the-answers = (refl, refl, refl, refl, refl, refl, refl, refl, refl)
+    × (total_on (Sum 18446744073709551615) 5 (5 ∷ []) ≡ Sum 18446744073709551615)
+    × (total_on (Sum 18446744073709551615) 5 (6 ∷ []) ≡ TooLarge)
+    × (total_on (Sum 18446744069414584320) 1 (0 ∷ []) ≡ Sum 18446744073709551615)
+    × (total_on (Sum 18446744069414584321) 1 (0 ∷ []) ≡ TooLarge)
+    × (total_on (Sum 3) 2 (1 ∷ []) ≡ Sum 4294967298)
+    × (total_on TooLarge 5 (5 ∷ []) ≡ TooLarge)
+unfolding answered total_on total_after
+the_answers = (refl, refl, refl, refl, refl, refl, refl, refl, refl)

@@ -1,29 +1,29 @@
 -- No section of document 01: what the functions beneath `credit` and `with_port` do to the arrays that they are lent. Everything is said by register and port.
---   countedFor due burst r i == what counter R of port i gets of what is due
---   framedPort due           == the port that a readable frame gives its source address to, or nobody
+--   counted_for due burst r i == what counter R of port i gets of what is due
+--   framed_port due           == the port that a readable frame gives its source address to, or nobody
 --   Written i source ..      == port i's six bytes are source, and all others as they were
 --   Laid i numbers ..        == port i's thirteen counters are numbers, and all others as they were
 -- Assumes nothing.
 use Rattle.std.specs.Prelude.{◌≡◌, ℕ, ◌<◌, cond, ◌&&◌, ◌||◌, List, length, ◌==◌, slice_index}
-use Rattle.ports.specs.Sets.{portCount, nobody, has}
+use Rattle.ports.specs.Sets.{port_count, nobody, has}
 use Rattle.record.specs.declared.Burst.{Burst}
 use Rattle.attributes.specs.declared.Due.{Due}
-use Rattle.attributes.specs.Nine.{readableFrames, counterCount}
-use Rattle.attributes.specs.Credits.{creditOf}
-use Rattle.attributes.specs.Flat.{place, spot, flatSize, spotsSize}
+use Rattle.attributes.specs.Nine.{readable_frames, counter_count}
+use Rattle.attributes.specs.Credits.{credit_of}
+use Rattle.attributes.specs.Flat.{place, spot, flat_size, spots_size}
 
-unfoldable pub countedFor : Due → Burst → ℕ → ℕ → ℕ
-countedFor due burst r i = cond (has due.heard i || has due.cut i) (creditOf due burst i r) 0
+unfoldable pub counted_for : Due → Burst → ℕ → ℕ → ℕ
+counted_for due burst r i = cond (has due.heard i || has due.cut i) (credit_of due burst i r) 0
 
-unfoldable pub framedPort : Due → ℕ
-framedPort due = cond (due.class == readableFrames && (has due.heard due.single || has due.cut due.single)) due.single nobody
+unfoldable pub framed_port : Due → ℕ
+framed_port due = cond (due.class == readable_frames && (has due.heard due.single || has due.cut due.single)) due.single nobody
 
 pub record Written (i : ℕ) (source addresses last : List ℕ) : Type 0 where
   pub fine : length last ≡ length addresses
-  pub is : length addresses ≡ spotsSize → (k j : ℕ) → k < portCount → j < 6
+  pub is : length addresses ≡ spots_size → (k j : ℕ) → k < port_count → j < 6
       → slice_index last (spot k j) ≡ cond (k == i) (slice_index source j) (slice_index addresses (spot k j))
 
 pub record Laid (i : ℕ) (numbers flat later : List ℕ) : Type 0 where
   pub fine : length later ≡ length flat
-  pub is : length flat ≡ flatSize → (r k : ℕ) → r < counterCount → k < portCount
+  pub is : length flat ≡ flat_size → (r k : ℕ) → r < counter_count → k < port_count
       → slice_index later (place r k) ≡ cond (k == i) (slice_index numbers r) (slice_index flat (place r k))

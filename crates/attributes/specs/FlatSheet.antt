@@ -11,8 +11,8 @@ use Rattle.ports.specs.Sets.{nobody}
 use Rattle.record.specs.declared.Burst.{Burst}
 use Rattle.attributes.specs.declared.Nine.{Nine}
 use Rattle.attributes.specs.declared.Met.{Met}
-use Rattle.attributes.specs.Credits.{dueOf, creditedAll}
-use Rattle.attributes.specs.Flat.{listed, nineOf}
+use Rattle.attributes.specs.Credits.{due_of, credited_all}
+use Rattle.attributes.specs.Flat.{listed, nine_of}
 use Rattle.attributes.specs.Sheet.{burst, bad, mistimed, met, alone, away}
 
 pub record Store : Type 0 where
@@ -51,12 +51,12 @@ abbrev pub row : ℕ → Met → Burst → List Store → List Store → Row
 row start m b counters addresses = record { start = start; met = m; burst = b; counters = counters; addresses = addresses }
 
 abbrev pub kept : Row → Nine
-kept w = nineOf (stored w.counters (alike w.start)) (stored w.addresses unknown)
+kept w = nine_of (stored w.counters (alike w.start)) (stored w.addresses unknown)
 
 abbrev pub found : Row → Nine
 found w =
-    let nine : Nine = nineOf (alike w.start) unknown in
-    creditedAll (dueOf nine w.met w.burst away) w.burst away nine
+    let nine : Nine = nine_of (alike w.start) unknown in
+    credited_all (due_of nine w.met w.burst away) w.burst away nine
 
 abbrev pub bursts : List Row
 bursts =

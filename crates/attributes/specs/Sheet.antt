@@ -14,8 +14,8 @@ use Rattle.attributes.specs.declared.Attributes.{Attributes}
 use Rattle.attributes.specs.declared.Nine.{Nine}
 use Rattle.attributes.specs.declared.Met.{Met}
 use Rattle.attributes.specs.declared.Due.{Due}
-use Rattle.attributes.specs.Nine.{allAlike, portOf}
-use Rattle.attributes.specs.Credits.{dueOf, creditedAll}
+use Rattle.attributes.specs.Nine.{all_alike, port_of}
+use Rattle.attributes.specs.Credits.{due_of, credited_all}
 
 abbrev pub flagged : Bool → Bool → ℕ → ℕ → ℕ → ℕ → Burst
 flagged fcs rate d n k c = record {
@@ -41,12 +41,12 @@ bad = flagged true false
 abbrev pub mistimed : ℕ → ℕ → ℕ → ℕ → Burst
 mistimed = flagged false true
 
-abbrev pub metWith : ℕ → ℕ → ℕ → Bool → ℕ → Met
-metWith limit heard single collision cut = record { heard = heard; single = single; collision = collision; cut = cut; limit = limit }
+abbrev pub met_with : ℕ → ℕ → ℕ → Bool → ℕ → Met
+met_with limit heard single collision cut = record { heard = heard; single = single; collision = collision; cut = cut; limit = limit }
 
 -- with the usual limit
 abbrev pub met : ℕ → ℕ → Bool → ℕ → Met
-met = metWith 78
+met = met_with 78
 
 abbrev pub alone : ℕ → Met
 alone p = met (2 ^ p) p false 0
@@ -97,12 +97,12 @@ row m b port counters = counted 0 m b home port counters home 0 0
 
 -- every counter at one number, and every port's address is home
 abbrev pub homes : ℕ → Nine
-homes v = allAlike (record { counters = replicate 13 v; address = home })
+homes v = all_alike (record { counters = replicate 13 v; address = home })
 
 abbrev pub found : Row → After
 found w =
-    let due : Due = dueOf (homes w.start) w.met w.burst w.source in
-    let port : Attributes = portOf (creditedAll due w.burst w.source (homes w.start)) w.port in
+    let due : Due = due_of (homes w.start) w.met w.burst w.source in
+    let port : Attributes = port_of (credited_all due w.burst w.source (homes w.start)) w.port in
     record { counters = port.counters; address = port.address; octets = due.octets; changed = due.changed }
 
 -- thirteen counters: 1 in these registers
@@ -140,7 +140,7 @@ classes =
 
 -- a burst of d bit times at TP0, met with that limit, is counted in that register
 abbrev pub limited : ℕ → ℕ → ℕ → Row
-limited limit d r = row (metWith limit 1 0 false 0) (burst d 9 0 0) 0 (ones (r ∷ []))
+limited limit d r = row (met_with limit 1 0 false 0) (burst d 9 0 0) 0 (ones (r ∷ []))
 
 -- the seven limits, each one bit time below it and at it
 abbrev pub limits : List Row

@@ -1,12 +1,12 @@
 // What the HIMIB counts: the nine ports' counters and last source addresses, and what a burst is credited with. Nine is what the rules speak of, Flat how it is
 // kept; no crate above knows a counter's place. A burst and an address write store what they change in arrays that they are lent.
 ghost use Rattle.std.specs.Prelude.{◌≡◌, ◌<◌, ◌&&◌, [], if◌then◌else◌, nat_eq};
-ghost use Rattle.ports.specs.Sets.{portCount, has};
-ghost use Rattle.attributes.specs.Nine.{counterCount, nothingCounted, counterOf, address_of, withPort};
-ghost use Rattle.attributes.specs.Credits.{class_of, sameAddress, classPort, changedBy, dueOf};
+ghost use Rattle.ports.specs.Sets.{port_count, has};
+ghost use Rattle.attributes.specs.Nine.{counter_count, nothing_counted, counter_of, address_of, with_port};
+ghost use Rattle.attributes.specs.Credits.{class_of, same_address, class_port, changed_by, due_of};
 ghost use Rattle.attributes.specs.OneClass.{Among, classes};
-ghost use Rattle.attributes.specs.Flat.{place, nineOf, nineIn, stretchOf, Counting, Readdressed, Credited};
-ghost use Rattle.attributes.specs.Counts.{countedFor, framedPort, Written, Laid};
+ghost use Rattle.attributes.specs.Flat.{place, nine_of, nine_in, stretch_of, Counting, Readdressed, Credited};
+ghost use Rattle.attributes.specs.Counts.{counted_for, framed_port, Written, Laid};
 
 use burst::Activity;
 use record::Burst;
@@ -141,7 +141,7 @@ fn class_of(limit: u32, burst: Burst) -> usize
 
 // Whether two addresses are the same.
 fn same_address(s: [u8; 6], a: [u8; 6]) -> bool
-    ensures { result ≡ sameAddress s a }
+    ensures { result ≡ same_address s a }
 {
     (s[0] == a[0])
         & (s[1] == a[1])
@@ -168,7 +168,7 @@ fn those(b: bool, mask: u16) -> u16
 impl Met {
     // The port that the class goes to: in a collision it goes to none.
     fn class_port(self) -> usize
-        ensures { result ≡ classPort self }
+        ensures { result ≡ class_port self }
     {
         if self.collision {
             return ports::NONE;
@@ -179,8 +179,8 @@ impl Met {
 
 // Where a counter stands.
 fn place(register: usize, i: usize) -> usize
-    requires register_lt_counter_count { register < counterCount }
-    requires i_lt_port_count { i < portCount }
+    requires register_lt_counter_count { register < counter_count }
+    requires i_lt_port_count { i < port_count }
     ensures { result ≡ place register i }
 {
     ports::COUNT * register + i
@@ -188,7 +188,7 @@ fn place(register: usize, i: usize) -> usize
 
 // A counter of port i, or 0 where there is none.
 pub fn counter(counters: &[u32; Flat::COUNTERS], i: usize, register: usize) -> u32
-    ensures { result ≡ counterOf (nineOf counters.now []) i register }
+    ensures { result ≡ counter_of (nine_of counters.now []) i register }
 {
     if i < ports::COUNT {
         if register < Attributes::COUNT {
@@ -202,7 +202,7 @@ pub fn counter(counters: &[u32; Flat::COUNTERS], i: usize, register: usize) -> u
 
 // One register over the nine ports, as it stands among the counters: nothing past the last register, and of a short slice what there is.
 pub fn attribute(counters: &[u32], register: usize) -> &[u32]
-    ensures { result.now ≡ stretchOf register counters.now }
+    ensures { result.now ≡ stretch_of register counters.now }
 {
     if register < Attributes::COUNT {
         let from = place(register, 0);
@@ -220,7 +220,7 @@ pub fn attribute(counters: &[u32], register: usize) -> &[u32]
 
 // Port i's last source address, or zeros past the last port.
 pub fn address(addresses: &[u8; Flat::ADDRESSES], i: usize) -> [u8; 6]
-    ensures { result ≡ address_of (nineOf [] addresses.now) i }
+    ensures { result ≡ address_of (nine_of [] addresses.now) i }
 {
     if i < ports::COUNT {
         let at = 6 * i;
@@ -238,7 +238,7 @@ pub fn address(addresses: &[u8; Flat::ADDRESSES], i: usize) -> [u8; 6]
 
 // Port i's six bytes written.
 fn write_address(addresses: &mut [u8; Flat::ADDRESSES], i: usize, source: [u8; 6])
-    requires { i < portCount }
+    requires { i < port_count }
     ensures { Written i source addresses.old addresses.new }
 {
     for j in 0..6 {
@@ -257,7 +257,7 @@ pub fn readdress(addresses: &mut [u8; Flat::ADDRESSES], i: usize, source: [u8; 6
 
 // n more in a register, at each port of the mask.
 fn bump(counters: &mut [u32; Flat::COUNTERS], mask: u16, register: usize, n: u32)
-    requires { register < counterCount }
+    requires { register < counter_count }
     ensures { Counting (λ r i. (if nat_eq register r && has mask i then n else 0)) counters.old counters.new }
 {
     let mut m = ports::wide(mask & ports::ALL);
@@ -270,7 +270,7 @@ fn bump(counters: &mut [u32; Flat::COUNTERS], mask: u16, register: usize, n: u32
 
 // The port whose address a readable frame changes, as a set.
 fn changed(addresses: &[u8; Flat::ADDRESSES], frame: bool, single: usize, source: [u8; 6]) -> u16
-    ensures { result ≡ changedBy (nineOf [] addresses.now) frame single source }
+    ensures { result ≡ changed_by (nine_of [] addresses.now) frame single source }
 {
     if frame {
         if same_address(source, address(addresses, single)) {
@@ -283,7 +283,7 @@ fn changed(addresses: &[u8; Flat::ADDRESSES], frame: bool, single: usize, source
 
 // What a burst is credited with.
 fn due_of(addresses: &[u8; Flat::ADDRESSES], met: Met, burst: Burst, source: [u8; 6]) -> Due
-    ensures { result ≡ dueOf (nineOf [] addresses.now) met burst source }
+    ensures { result ≡ due_of (nine_of [] addresses.now) met burst source }
 {
     let single = met.class_port();
     let class = class_of(met.limit, burst);
@@ -304,7 +304,7 @@ fn due_of(addresses: &[u8; Flat::ADDRESSES], met: Met, burst: Burst, source: [u8
 // The counters with what is due. A port that is neither heard nor cut has no part in it.
 fn count(counters: &mut [u32; Flat::COUNTERS], due: Due, burst: Burst)
     requires { Among due.class classes }
-    ensures { Counting (countedFor due burst) counters.old counters.new }
+    ensures { Counting (counted_for due burst) counters.old counters.new }
 {
     let touched = due.heard | due.cut;
     let own = ports::only(due.single) & touched;
@@ -333,7 +333,7 @@ fn count(counters: &mut [u32; Flat::COUNTERS], due: Due, burst: Burst)
 
 // The port that a readable frame gives its source address to, or none.
 fn framed_port(due: Due) -> usize
-    ensures { result ≡ framedPort due }
+    ensures { result ≡ framed_port due }
 {
     if due.class == Attributes::READABLE_FRAMES {
         if ports::contains(due.heard | due.cut, due.single) {
@@ -362,7 +362,7 @@ pub fn credit(
 
 // A port's thirteen counters laid at their places.
 fn lay(counters: &mut [u32; Flat::COUNTERS], i: usize, numbers: [u32; 13])
-    requires { i < portCount }
+    requires { i < port_count }
     ensures { Laid i numbers counters.old counters.new }
 {
     for r in 0..Attributes::COUNT {
@@ -379,7 +379,7 @@ impl Flat {
 
     // Nothing counted yet.
     pub fn zero() -> Flat
-        ensures { nineIn result ≡ nothingCounted }
+        ensures { nine_in result ≡ nothing_counted }
     {
         Flat {
             counters: [0; Flat::COUNTERS],
@@ -389,7 +389,7 @@ impl Flat {
 
     // With port i's attributes put in place, or as it was past the last port.
     pub fn with_port(mut self, i: usize, port: Attributes) -> Flat
-        ensures { nineIn result ≡ withPort (nineIn self) i port }
+        ensures { nine_in result ≡ with_port (nine_in self) i port }
     {
         if i < ports::COUNT {
             let numbers = port.counters;

@@ -1,6 +1,6 @@
 // Readings of a counter, two or many, and the octet check.
 ghost use Rattle.std.specs.Prelude.{◌≡◌, ◌+◌, [], ◌∷◌};
-ghost use Rattle.attributes.specs.Octets.{differenceOf, checkOf, totalAfter, total_of, answered, totalOn};
+ghost use Rattle.attributes.specs.Octets.{difference_of, check_of, total_after, total_of, answered, total_on};
 
 use crate::Attributes;
 
@@ -18,14 +18,14 @@ impl Check {
 
 // Later minus earlier modulo 2^32.
 pub fn difference(later: u32, earlier: u32) -> u32
-    ensures { result ≡ differenceOf later earlier }
+    ensures { result ≡ difference_of later earlier }
 {
     std::num::wrapping_sub_u32(later, earlier)
 }
 
 // Whether so many octets fit so many readable frames.
 pub fn octet_check(frames: u32, octets: u32) -> Check
-    ensures { result ≡ checkOf frames octets }
+    ensures { result ≡ check_of frames octets }
 {
     if Check::MOST_FRAMES < frames {
         return Check::TurnedAway(10);
@@ -59,7 +59,7 @@ pub fn total_of(readings: &[u32]) -> Total
 
 // A sum so far and the last reading in it, carried on by the next readings.
 pub fn total_on(sum: Total, last: u32, readings: &[u32]) -> Total
-    ensures { result ≡ totalOn sum last readings.now }
+    ensures { result ≡ total_on sum last readings.now }
 {
     match sum {
         Total::Sum(n) => carried(n, last, readings),
@@ -69,7 +69,7 @@ pub fn total_on(sum: Total, last: u32, readings: &[u32]) -> Total
 
 // The same by one reading, for those that poll.
 pub fn further(sum: Total, last: u32, reading: u32) -> Total
-    ensures { result ≡ totalOn sum last (reading ∷ []) }
+    ensures { result ≡ total_on sum last (reading ∷ []) }
 {
     total_on(sum, last, &[reading])
 }
@@ -82,7 +82,7 @@ fn wide(n: u32) -> u64
 
 // The differences of the readings, each from the one before it, added to a sum. Kept is how much more fits.
 fn carried(sum: u64, last: u32, readings: &[u32]) -> Total
-    ensures { result ≡ answered (sum + totalAfter last readings.now) }
+    ensures { result ≡ answered (sum + total_after last readings.now) }
 {
     let mut room = u64::MAX - sum;
     let mut before = last;

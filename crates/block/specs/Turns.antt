@@ -5,14 +5,14 @@
 -- Assumes nothing.
 use Rattle.std.specs.Prelude.{◌≡◌, ℕ, ◌+◌, ◌-◌, ◌/◌, ◌%◌, ◌^◌, ◌≤◌, List, length, take, drop}
 use Rattle.record.specs.declared.Record.{Record}
-use Rattle.record.specs.Record.{recordLength}
-use Rattle.record.specs.Refusals.{recordOf}
+use Rattle.record.specs.Record.{record_length}
+use Rattle.record.specs.Refusals.{record_of}
 use Rattle.answer.specs.Put.{room}
 use Rattle.himib.specs.Runs.{Point}
 use Rattle.block.specs.Block.{Work, worked, block_of}
 
 abbrev pub left : List ℕ → Work → ℕ
-left s w = (length s - w.at) / recordLength
+left s w = (length s - w.at) / record_length
 
 pub record Stands (p : Point) (n : ℕ) (input out : List ℕ) (w : Work) : Type 0 where
   pub inside : w.at ≤ length input
@@ -23,7 +23,7 @@ pub record Stands (p : Point) (n : ℕ) (input out : List ℕ) (w : Work) : Type
 
 pub record Reading (p : Point) (n : ℕ) (input out : List ℕ) (w : Work) (r : Record) (next : ℕ) : Type 0 where
   pub stands : Stands p n input out w
-  pub whole : recordLength ≤ length input - w.at
+  pub whole : record_length ≤ length input - w.at
   pub roomy : room ≤ length w.out - w.used
-  pub read : r ≡ recordOf (take (w.at + recordLength - w.at) (drop w.at input))
+  pub read : r ≡ record_of (take (w.at + record_length - w.at) (drop w.at input))
   pub counted : next ≡ (w.number + 1) % 2 ^ 64

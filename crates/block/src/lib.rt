@@ -1,5 +1,5 @@
 // A block of records answered: the function that the run program calls with what it has read.
-ghost use Rattle.block.specs.Block.{standing, cameTo, Answered, AnsweredPiece};
+ghost use Rattle.block.specs.Block.{standing, came_to, Answered, AnsweredPiece};
 
 use answer::Answer;
 use attributes::Flat;
@@ -31,7 +31,7 @@ pub fn answer_block(
     input: &[u8],
     out: &mut [u8],
 ) -> Block
-    ensures { Answered (standing core0 counters0 addresses0 h) first input.now out.old (cameTo result out.new) }
+    ensures { Answered (standing core0 counters0 addresses0 h) first input.now out.old (came_to result out.new) }
 {
     let mut core = core0;
     let mut counters = counters0;

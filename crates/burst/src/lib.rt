@@ -2,10 +2,10 @@
 // connects again.
 // The ports' own steps are in the crates port and repeater.
 ghost use Rattle.std.specs.Prelude.{◌≡◌, ◌&&◌, eqb};
-ghost use Rattle.ports.specs.Sets.{setOf};
-ghost use Rattle.burst.specs.Burst.{inE, heardOf, signalled, wordOfOne, effectWith, effect_of};
-ghost use Rattle.burst.specs.Marks.{marksOf};
-ghost use Rattle.burst.specs.Clean.{isJam, isRep, dataTo, cleanAt, lastingAt, reconnectingAt};
+ghost use Rattle.ports.specs.Sets.{set_of};
+ghost use Rattle.burst.specs.Burst.{in_e, heard_of, signalled, word_of_one, effect_with, effect_of};
+ghost use Rattle.burst.specs.Marks.{marks_of};
+ghost use Rattle.burst.specs.Clean.{is_jam, is_rep, data_to, clean_at, lasting_at, reconnecting_at};
 
 use management::Status;
 use port::Port;
@@ -71,7 +71,7 @@ impl Activity {
 
     // E.
     pub fn active(self) -> u16
-        ensures { result ≡ setOf (inE self) }
+        ensures { result ≡ set_of (in_e self) }
     {
         if self.collision_signal {
             return self.mask | ports::only(ports::AUI);
@@ -90,7 +90,7 @@ impl Activity {
     }
 
     fn word_of_one(self, port: usize) -> Word
-        ensures { result ≡ wordOfOne port self }
+        ensures { result ≡ word_of_one port self }
     {
         if self.signalled(port) {
             return Word::Jam;
@@ -102,7 +102,7 @@ impl Activity {
     }
 
     fn collided_with_none(self, hearing: Hearing) -> u16
-        ensures { result ≡ (effectWith Bus.Nothing Heard.Nothing hearing self).collided }
+        ensures { result ≡ (effect_with Bus.Nothing Heard.Nothing hearing self).collided }
     {
         if self.collision_signal {
             return ports::only(ports::AUI) & hearing.t;
@@ -111,7 +111,7 @@ impl Activity {
     }
 
     fn collided_with_one(self, port: usize, hearing: Hearing) -> u16
-        ensures { result ≡ (effectWith Bus.Nothing (Heard.One port) hearing self).collided }
+        ensures { result ≡ (effect_with Bus.Nothing (Heard.One port) hearing self).collided }
     {
         let both = hearing.e & hearing.t;
         if self.signalled(port) {
@@ -122,7 +122,7 @@ impl Activity {
 
     // What follows where no port is heard.
     fn with_none(self, hearing: Hearing) -> Effect
-        ensures { result ≡ effectWith Bus.Nothing Heard.Nothing hearing self }
+        ensures { result ≡ effect_with Bus.Nothing Heard.Nothing hearing self }
     {
         let collided = self.collided_with_none(hearing);
         Effect {
@@ -137,7 +137,7 @@ impl Activity {
 
     // What follows where one port is heard.
     fn with_one(self, port: usize, hearing: Hearing) -> Effect
-        ensures { result ≡ effectWith Bus.Nothing (Heard.One port) hearing self }
+        ensures { result ≡ effect_with Bus.Nothing (Heard.One port) hearing self }
     {
         let word = self.word_of_one(port);
         let out = ports::less(hearing.t, ports::only(port));
@@ -155,7 +155,7 @@ impl Activity {
 
     // What follows where two or more are heard.
     fn with_more(self, hearing: Hearing) -> Effect
-        ensures { result ≡ effectWith Bus.Nothing Heard.More hearing self }
+        ensures { result ≡ effect_with Bus.Nothing Heard.More hearing self }
     {
         Effect {
             word: Word::Jam,
@@ -192,7 +192,7 @@ impl Activity {
 impl Activity {
     // The single heard port if it carries a bit rate error.
     fn mistimed(self, single: usize) -> u16
-        ensures { result ≡ setOf (λ i. self.rate_error && eqb i single) }
+        ensures { result ≡ set_of (λ i. self.rate_error && eqb i single) }
     {
         if self.rate_error {
             return ports::only(single);
@@ -202,7 +202,7 @@ impl Activity {
 
     // The status bits that the burst sets.
     pub fn marks(self, effect: Effect) -> Status
-        ensures { result ≡ marksOf effect self }
+        ensures { result ≡ marks_of effect self }
     {
         let rates = self.mistimed(effect.single);
         let aui = ports::contains(rates, ports::AUI);
@@ -219,7 +219,7 @@ impl Activity {
 
 // What the count of ones of a mask of heard ports says.
 pub fn count_heard(h: u16) -> Heard
-    ensures { result ≡ heardOf h }
+    ensures { result ≡ heard_of h }
 {
     let n = u16::count_ones(h);
     if n == 0 {
@@ -238,7 +238,7 @@ fn place(i: u32) -> usize
 }
 
 fn is_jam(word: Word) -> bool
-    ensures { result ≡ isJam word }
+    ensures { result ≡ is_jam word }
 {
     match word {
         Word::Nil => false,
@@ -248,7 +248,7 @@ fn is_jam(word: Word) -> bool
 }
 
 fn is_rep(word: Word) -> bool
-    ensures { result ≡ isRep word }
+    ensures { result ≡ is_rep word }
 {
     match word {
         Word::Nil => false,
@@ -260,7 +260,7 @@ fn is_rep(word: Word) -> bool
 impl Effect {
     // The ports that data goes out to.
     fn data(self) -> u16
-        ensures { result ≡ setOf (dataTo self) }
+        ensures { result ≡ set_of (data_to self) }
     {
         let word = self.word;
         if is_rep(word) {
@@ -271,7 +271,7 @@ impl Effect {
 
     // The ports that the burst is clean for.
     fn clean(self, hearing: Hearing) -> u16
-        ensures { result ≡ setOf (cleanAt hearing self) }
+        ensures { result ≡ set_of (clean_at hearing self) }
     {
         let word = self.word;
         if is_jam(word) {
@@ -282,7 +282,7 @@ impl Effect {
 
     // The ports that it is clean for and lasts.
     pub fn lasting(self, hearing: Hearing, activity: Activity) -> u16
-        ensures { result ≡ setOf (lastingAt hearing self activity) }
+        ensures { result ≡ set_of (lasting_at hearing self activity) }
     {
         let clean = self.clean(hearing);
         if Port::LASTING_ABOVE < activity.d {
@@ -293,7 +293,7 @@ impl Effect {
 
     // Of these, the ones that it connects again if they are partitioned.
     pub fn reconnecting(self, lasting: u16, alternate: bool) -> u16
-        ensures { result ≡ setOf (reconnectingAt self lasting alternate) }
+        ensures { result ≡ set_of (reconnecting_at self lasting alternate) }
     {
         if alternate {
             return lasting & self.data();

@@ -1,5 +1,5 @@
 -- Readings come in stretches of bytes, and where these are cut makes no difference, as long as no reading is cut: only the last may end in a piece of one.
---   blocksOf c bss == the chain c with the readings of the blocks bss behind it, block after block
+--   blocks_of c bss == the chain c with the readings of the blocks bss behind it, block after block
 --   AllWhole bss   == each block is of whole readings
 --   joined bss bs  == the blocks, one behind the other, and then the bytes bs
 --   BlocksAreOne   == blocks of whole readings and a last one of any bytes come to what the readings in all their bytes come to
@@ -7,15 +7,15 @@
 -- Assumes nothing.
 use Rattle.std.specs.Prelude.{ℕ, ◌%◌, ◌≡◌, List, [], ◌∷◌, ◌++◌, length}
 use Rattle.chain.specs.declared.Chain.{Chain}
-use Rattle.chain.specs.Chain.{readingLength, readingsIn, rest_of, none, onward, chainOf}
+use Rattle.chain.specs.Chain.{reading_length, readings_in, rest_of, none, onward, chain_of}
 
-unfoldable pub blocksOf : Chain → List (List ℕ) → Chain
-blocksOf c [] = c
-blocksOf c (bs ∷ bss) = blocksOf (onward c (readingsIn bs)) bss
+unfoldable pub blocks_of : Chain → List (List ℕ) → Chain
+blocks_of c [] = c
+blocks_of c (bs ∷ bss) = blocks_of (onward c (readings_in bs)) bss
 
 abbrev pub AllWhole : List (List ℕ) → Type 0
 AllWhole [] = Unit
-AllWhole (bs ∷ bss) = (length bs % readingLength ≡ 0) × AllWhole bss
+AllWhole (bs ∷ bss) = (length bs % reading_length ≡ 0) × AllWhole bss
 
 abbrev pub joined : List (List ℕ) → List ℕ → List ℕ
 joined [] last = last
@@ -23,7 +23,7 @@ joined (bs ∷ bss) last = bs ++ joined bss last
 
 abbrev pub BlocksAreOne : Type 0
 BlocksAreOne =
-    (bss : List (List ℕ)) (last : List ℕ) → AllWhole bss → blocksOf none (bss ++ (last ∷ [])) ≡ chainOf (readingsIn (joined bss last))
+    (bss : List (List ℕ)) (last : List ℕ) → AllWhole bss → blocks_of none (bss ++ (last ∷ [])) ≡ chain_of (readings_in (joined bss last))
 
 abbrev pub RestIsOfLast : Type 0
 RestIsOfLast = (bss : List (List ℕ)) (last : List ℕ) → AllWhole bss → rest_of (joined bss last) ≡ rest_of last

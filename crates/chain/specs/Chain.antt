@@ -1,32 +1,32 @@
 -- Request Q-14: many readings of one counter, four bytes each, the least significant first.
---   readingLength   == the bytes of a reading
---   readingsIn bs   == the readings that the bytes bs spell; 1 to 3 bytes behind the last whole one are left out
+--   reading_length   == the bytes of a reading
+--   readings_in bs   == the readings that the bytes bs spell; 1 to 3 bytes behind the last whole one are left out
 --   rest_of bs       == how many bytes those are
 --   none            == the chain before the first reading: 0 so far
 --   last_of last rs  == the last of the readings rs, or if there are none, last
 --   some rs         == there is a reading among rs
 --   onward c rs     == the chain c with the readings rs behind it; where no reading came before, rs alone
---   chainOf rs      == what all readings rs come to: the sum of their differences, the last of them or 0, and whether there is one
+--   chain_of rs      == what all readings rs come to: the sum of their differences, the last of them or 0, and whether there is one
 --   OnwardIsTotal   == readings behind no other ones come to that
 -- Assumes nothing.
 use Rattle.std.specs.Prelude.{ℕ, ◌%◌, ◌≡◌, Bool, true, false, cond, List, [], ◌∷◌, length}
 use Rattle.spelling.specs.Spelling.{spelt}
 use Rattle.attributes.specs.declared.octets.Total.TheVariants.{Sum}
-use Rattle.attributes.specs.Octets.{total_of, answered, totalOn}
+use Rattle.attributes.specs.Octets.{total_of, answered, total_on}
 use Rattle.chain.specs.declared.Chain.{Chain}
 
-abbrev pub readingLength : ℕ
-readingLength = 4
+abbrev pub reading_length : ℕ
+reading_length = 4
 
-unfoldable pub readingsIn : List ℕ → List ℕ
-readingsIn [] = []
-readingsIn (a ∷ []) = []
-readingsIn (a ∷ b ∷ []) = []
-readingsIn (a ∷ b ∷ c ∷ []) = []
-readingsIn (a ∷ b ∷ c ∷ d ∷ rest) = spelt (a ∷ b ∷ c ∷ d ∷ []) ∷ readingsIn rest
+unfoldable pub readings_in : List ℕ → List ℕ
+readings_in [] = []
+readings_in (a ∷ []) = []
+readings_in (a ∷ b ∷ []) = []
+readings_in (a ∷ b ∷ c ∷ []) = []
+readings_in (a ∷ b ∷ c ∷ d ∷ rest) = spelt (a ∷ b ∷ c ∷ d ∷ []) ∷ readings_in rest
 
 abbrev pub rest_of : List ℕ → ℕ
-rest_of bs = length bs % readingLength
+rest_of bs = length bs % reading_length
 
 abbrev pub none : Chain
 none = record { total = Sum 0; last = 0; begun = false }
@@ -38,7 +38,7 @@ last_of last (r ∷ rs) = last_of r rs
 unfoldable pub onward : Chain → List ℕ → Chain
 onward c [] = c
 onward c (r ∷ rs) = record {
-  total = cond c.begun (totalOn c.total c.last (r ∷ rs)) (answered (total_of (r ∷ rs)));
+  total = cond c.begun (total_on c.total c.last (r ∷ rs)) (answered (total_of (r ∷ rs)));
   last = last_of r rs;
   begun = true;
 }
@@ -47,8 +47,8 @@ abbrev pub some : List ℕ → Bool
 some [] = false
 some (r ∷ rs) = true
 
-abbrev pub chainOf : List ℕ → Chain
-chainOf rs = record { total = answered (total_of rs); last = last_of 0 rs; begun = some rs }
+abbrev pub chain_of : List ℕ → Chain
+chain_of rs = record { total = answered (total_of rs); last = last_of 0 rs; begun = some rs }
 
 abbrev pub OnwardIsTotal : Type 0
-OnwardIsTotal = (rs : List ℕ) → onward none rs ≡ chainOf rs
+OnwardIsTotal = (rs : List ℕ) → onward none rs ≡ chain_of rs

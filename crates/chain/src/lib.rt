@@ -1,7 +1,7 @@
 // Readings of one counter as bytes, four each, the least significant first. What their differences add up to is carried from one stretch of input to the
 // next.
 ghost use Rattle.std.specs.Prelude.{◌≡◌, ◌/◌, ◌≤◌, length, take};
-ghost use Rattle.chain.specs.Chain.{readingLength, readingsIn, none, onward};
+ghost use Rattle.chain.specs.Chain.{reading_length, readings_in, none, onward};
 
 use attributes::octets;
 use attributes::octets::Total;
@@ -39,7 +39,7 @@ const PIECE: usize = 1024;
 // The readings in some bytes, each at its place; the places behind the last have nothing to say.
 fn readings_of(piece: &[u8]) -> [u32; READINGS]
     requires { length piece.now ≤ 1024 }
-    ensures { take (length piece.now / readingLength) result ≡ readingsIn piece.now }
+    ensures { take (length piece.now / reading_length) result ≡ readings_in piece.now }
 {
     let mut readings: [u32; READINGS] = [0; READINGS];
     let n = piece.len() / Chain::READING;
@@ -79,7 +79,7 @@ fn carry(chain: Chain, readings: &[u32]) -> Chain
 // The readings in a piece of the input.
 fn take_piece(chain: Chain, piece: &[u8]) -> Chain
     requires { length piece.now ≤ 1024 }
-    ensures { result ≡ onward chain (readingsIn piece.now) }
+    ensures { result ≡ onward chain (readings_in piece.now) }
 {
     let readings = readings_of(piece);
     let n = piece.len() / Chain::READING;
@@ -88,7 +88,7 @@ fn take_piece(chain: Chain, piece: &[u8]) -> Chain
 
 // The readings in a stretch of input, behind those of the stretches before it. 1 to 3 bytes behind the last whole reading are left out.
 pub fn take_readings(chain: Chain, bytes: &[u8]) -> Chain
-    ensures { result ≡ onward chain (readingsIn bytes.now) }
+    ensures { result ≡ onward chain (readings_in bytes.now) }
 {
     let mut so_far = chain;
     let mut at: usize = 0;

@@ -1,6 +1,6 @@
 // The change bits of P 1, the enables of P 2 and the interrupt, each as the bytes of registers R 0 to R 7. Nothing of the chip is in it.
 ghost use Rattle.std.specs.Prelude.{◌≡◌, get_or, set};
-ghost use Rattle.changes.specs.Changes.{bit7, tpByte, auiBit, eventsOf, noted, keptBits, pending};
+ghost use Rattle.changes.specs.Changes.{bit7, tp_byte, aui_bit, events_of, noted, kept_bits, pending};
 
 // How many registers there are, with R 5, which has no bits.
 pub const REGISTERS: usize = 8;
@@ -17,21 +17,21 @@ pub fn bit_7(one: bool) -> u8
 
 // The TP ports of a set.
 fn tp_byte(mask: u16) -> u8
-    ensures { result ≡ tpByte mask }
+    ensures { result ≡ tp_byte mask }
 {
     (mask % 256) as u8
 }
 
 // AUI of a set.
 fn aui_bit(mask: u16) -> u8
-    ensures { result ≡ auiBit mask }
+    ensures { result ≡ aui_bit mask }
 {
     bit_7(ports::contains(mask, ports::AUI))
 }
 
 // The bits that events set, register by register.
 pub fn events(partition: u16, link: u16, loopback: bool, sqe: bool, address: u16) -> [u8; REGISTERS]
-    ensures { result ≡ eventsOf partition link loopback sqe address }
+    ensures { result ≡ events_of partition link loopback sqe address }
 {
     let tp_partition = tp_byte(partition);
     let aui_partition = aui_bit(partition);
@@ -65,7 +65,7 @@ pub fn note(changes: [u8; REGISTERS], events: [u8; REGISTERS]) -> [u8; REGISTERS
 
 // What a write to the enables of R keeps.
 pub fn keep_bits(register: u8, byte: u8) -> u8
-    ensures { result ≡ keptBits register byte }
+    ensures { result ≡ kept_bits register byte }
 {
     if (register == 1) | (register == 3) | (register == 4) | (register == 7) {
         return byte & BIT_7;

@@ -1,58 +1,58 @@
 -- The cases of the chip's definitions, as the code asks them, and what is chosen at power-up. The tables are computed first. Assumes nothing.
---   moved-still     == where no port's partition state changed
---   fits-seven, seven-fits == a limit fits exactly if it is one of the seven
---   refusal-fit, refusal-other, settled-fit, settled-other == what power-up makes of it
---   settled-in      == the chip goes by one of the seven, whatever was asked for
+--   moved_still     == where no port's partition state changed
+--   fits_seven, seven_fits == a limit fits exactly if it is one of the seven
+--   refusal_fit, refusal_other, settled_fit, settled_other == what power-up makes of it
+--   settled_in      == the chip goes by one of the seven, whatever was asked for
 use Rattle.std.proofs.Common.{◌≡◌, ℕ, ◌≤◌, Bool, true, false, cond, leb, refl, arith, le-leb, leb-true}
 use lib.Bits.{xor_self}
 use Rattle.ports.proofs.Sets.{and_first, and_second}
 use Rattle.repeater.specs.declared.Repeater.{Repeater}
-use Rattle.repeater.specs.Repeater.{partitionedOf}
-use Rattle.attributes.specs.Credits.{shortFrom, shortTo}
+use Rattle.repeater.specs.Repeater.{partitioned_of}
+use Rattle.attributes.specs.Credits.{short_from, short_to}
 use Rattle.chip.specs.declared.Core.{Core}
 use Rattle.chip.specs.declared.Choices.{Choices}
-use Rattle.chip.specs.Chip.{usual, limitRefused, fits, refusalOf, settled_of, movedBy, moved}
+use Rattle.chip.specs.Chip.{usual, limit_refused, fits, refusal_of, settled_of, moved_by, moved}
 use Rattle.chip.proofs.Sheet
 
 -- where no port's partition state changed
-pub moved-still : (c : Core) (q : Repeater) (loopback sqe : Bool) (address : ℕ) → partitionedOf q ≡ partitionedOf c.repeater
-    → movedBy c q 0 loopback sqe address ≡ moved c q loopback sqe address
+pub moved_still : (c : Core) (q : Repeater) (loopback sqe : Bool) (address : ℕ) → partitioned_of q ≡ partitioned_of c.repeater
+    → moved_by c q 0 loopback sqe address ≡ moved c q loopback sqe address
 unfolding moved
-moved-still c q loopback sqe address e = rw (e, xor_self (partitionedOf c.repeater))
+moved_still c q loopback sqe address e = rw (e, xor_self (partitioned_of c.repeater))
 
 abbrev pub Seven : ℕ → Type 0
-Seven limit = (shortFrom ≤ limit) × (limit ≤ shortTo)
+Seven limit = (short_from ≤ limit) × (limit ≤ short_to)
 
 module _ (choices : Choices) where
   abbrev l : ℕ
   l = choices.short_limit
 
-  pub fits-seven : fits choices ≡ true → Seven l
-  fits-seven e = (leb-true shortFrom l (and_first (leb shortFrom l) (leb l shortTo) e), leb-true l shortTo (and_second (leb shortFrom l) (leb l shortTo) e))
+  pub fits_seven : fits choices ≡ true → Seven l
+  fits_seven e = (leb-true short_from l (and_first (leb short_from l) (leb l short_to) e), leb-true l short_to (and_second (leb short_from l) (leb l short_to) e))
 
-  pub seven-fits : Seven l → fits choices ≡ true
-  seven-fits s = rw (le-leb shortFrom l s.0, le-leb l shortTo s.1)
+  pub seven_fits : Seven l → fits choices ≡ true
+  seven_fits s = rw (le-leb short_from l s.0, le-leb l short_to s.1)
 
-  pub refusal-fit : fits choices ≡ true → refusalOf choices ≡ 0
-  unfolding refusalOf
-  refusal-fit e = rw e
+  pub refusal_fit : fits choices ≡ true → refusal_of choices ≡ 0
+  unfolding refusal_of
+  refusal_fit e = rw e
 
-  pub refusal-other : fits choices ≡ false → refusalOf choices ≡ limitRefused
-  unfolding refusalOf
-  refusal-other e = rw e
+  pub refusal_other : fits choices ≡ false → refusal_of choices ≡ limit_refused
+  unfolding refusal_of
+  refusal_other e = rw e
 
-  pub settled-fit : fits choices ≡ true → settled_of choices ≡ choices
+  pub settled_fit : fits choices ≡ true → settled_of choices ≡ choices
   unfolding settled_of
-  settled-fit e = rw e
+  settled_fit e = rw e
 
-  pub settled-other : fits choices ≡ false → settled_of choices ≡ usual
+  pub settled_other : fits choices ≡ false → settled_of choices ≡ usual
   unfolding settled_of
-  settled-other e = rw e
+  settled_other e = rw e
 
-  pub settled-in : Seven (settled_of choices).short_limit
+  pub settled_in : Seven (settled_of choices).short_limit
   unfolding settled_of
-  settled-in = go (fits choices) refl
+  settled_in = go (fits choices) refl
     where
       go : (t : Bool) → fits choices ≡ t → Seven (cond t choices usual).short_limit
-      go true e = fits-seven e
+      go true e = fits_seven e
       go false e = (omega arith, omega arith)

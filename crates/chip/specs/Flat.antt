@@ -1,10 +1,10 @@
 -- The chip as it is kept, and the chip of specs/Chip that it stands for: the core is the same, and the attributes are those of attributes/specs/Flat.
 --   holding c flat addresses == a chip with this core, its attributes kept in these two arrays
---   chipOf, supplyOf         == the chip, and what power-up is given, that what is kept stands for; poweredBy == what power-up gives
+--   chip_of, supply_of         == the chip, and what power-up is given, that what is kept stands for; powered_by == what power-up gives
 --   Sized c                  == its arrays have as many places as their type says
 -- Assumes nothing.
 use Rattle.std.specs.Prelude.{◌≡◌, ℕ, List, length}
-use Rattle.attributes.specs.Flat.{nineOf, nineIn, flatSize, spotsSize}
+use Rattle.attributes.specs.Flat.{nine_of, nine_in, flat_size, spots_size}
 use Rattle.chip.specs.declared.Core.{Core}
 use Rattle.chip.specs.declared.Supply.{Supply}
 use Rattle.chip.specs.declared.Chip.{Chip}
@@ -14,17 +14,17 @@ use Rattle.chip.specs.declared.Powered.{Powered}
 use Rattle.chip.specs.declared.FlatPowered.{FlatPowered}
 
 abbrev pub holding : Core → List ℕ → List ℕ → Chip
-holding c flat addresses = record { core = c; attributes = nineOf flat addresses }
+holding c flat addresses = record { core = c; attributes = nine_of flat addresses }
 
-abbrev pub chipOf : FlatChip → Chip
-chipOf s = holding s.core s.flat.counters s.flat.addresses
+abbrev pub chip_of : FlatChip → Chip
+chip_of s = holding s.core s.flat.counters s.flat.addresses
 
-abbrev pub supplyOf : FlatSupply → Supply
-supplyOf given = record { attributes = nineIn given.flat; kept = given.kept }
+abbrev pub supply_of : FlatSupply → Supply
+supply_of given = record { attributes = nine_in given.flat; kept = given.kept }
 
-abbrev pub poweredBy : FlatPowered → Powered
-poweredBy t = record { number = t.number; chip = chipOf t.chip }
+abbrev pub powered_by : FlatPowered → Powered
+powered_by t = record { number = t.number; chip = chip_of t.chip }
 
 pub record Sized (s : FlatChip) : Type 0 where
-  pub counters : length s.flat.counters ≡ flatSize
-  pub addresses : length s.flat.addresses ≡ spotsSize
+  pub counters : length s.flat.counters ≡ flat_size
+  pub addresses : length s.flat.addresses ≡ spots_size

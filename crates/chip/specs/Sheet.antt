@@ -3,41 +3,41 @@
 --   used              == a core with nothing as at power-up: change bits, enables, counters, interface error, G, and links and partitions of the repeater
 --   changing c r ..   == the change bits after the repeater has come to r, with these events
 --   limits            == limits at power-up, each with its number and with the one that the chip goes by; given == what power-up makes of it
---   collidedAui       == TP0, TP1 and AUI partitioned, and the links of TP0 to TP2 pass
+--   collided_aui       == TP0, TP1 and AUI partitioned, and the links of TP0 to TP2 pass
 -- Assumes nothing.
 use Rattle.std.specs.Prelude.{ℕ, Bool, true, List, [], ◌∷◌}
 use Rattle.repeater.specs.declared.Repeater.{Repeater}
-use Rattle.repeater.specs.Reset.{powerUp}
-use Rattle.repeater.specs.Events.{afterInputs}
-use Rattle.repeater.specs.Sheet.{passing, auiParted}
-use Rattle.attributes.specs.Nine.{nothingCounted}
+use Rattle.repeater.specs.Reset.{power_up}
+use Rattle.repeater.specs.Events.{after_inputs}
+use Rattle.repeater.specs.Sheet.{passing, aui_parted}
+use Rattle.attributes.specs.Nine.{nothing_counted}
 use Rattle.chip.specs.declared.Choices.{Choices}
 use Rattle.chip.specs.declared.Kept.{Kept}
 use Rattle.chip.specs.declared.Core.{Core}
 use Rattle.chip.specs.declared.Powered.{Powered}
-use Rattle.chip.specs.Chip.{coreUp, poweredUp, withRepeater, moved}
+use Rattle.chip.specs.Chip.{core_up, powered_up, with_repeater, moved}
 
 abbrev pub limit : ℕ → Choices
 limit l = record { short_limit = l }
 
-abbrev pub keptWith : ℕ → ℕ → ℕ → Kept
-keptWith l collisions octets = record { transmit_collisions = collisions; total_octets = octets; choices = limit l }
+abbrev pub kept_with : ℕ → ℕ → ℕ → Kept
+kept_with l collisions octets = record { transmit_collisions = collisions; total_octets = octets; choices = limit l }
 
 abbrev pub kept : ℕ → ℕ → Kept
-kept = keptWith 77
+kept = kept_with 77
 
 abbrev pub up : Core
-up = coreUp (kept 0 0)
+up = core_up (kept 0 0)
 
 abbrev pub linked : Repeater
-linked = afterInputs powerUp passing
+linked = after_inputs power_up passing
 
-abbrev pub collidedAui : Repeater
-collidedAui = afterInputs powerUp auiParted
+abbrev pub collided_aui : Repeater
+collided_aui = after_inputs power_up aui_parted
 
 abbrev pub used : Core
 used = record {
-  repeater = collidedAui;
+  repeater = collided_aui;
   changes = 1 ∷ 128 ∷ 4 ∷ 128 ∷ 128 ∷ 0 ∷ 64 ∷ 128 ∷ [];
   enables = 255 ∷ 128 ∷ 255 ∷ 128 ∷ 128 ∷ 0 ∷ 255 ∷ 128 ∷ [];
   kept = kept 7 9;
@@ -72,7 +72,7 @@ limits =
 
 -- what power-up makes of a limit
 abbrev pub powered : ℕ → Powered
-powered l = poweredUp (record { attributes = nothingCounted; kept = keptWith l 7 9 })
+powered l = powered_up (record { attributes = nothing_counted; kept = kept_with l 7 9 })
 
 abbrev pub given : Asked → Asked
 given a = asked a.limit (powered a.limit).number (powered a.limit).chip.core.kept.choices.short_limit
@@ -82,4 +82,4 @@ changing c r loopback sqe address = (moved c r loopback sqe address).changes
 
 -- a core whose repeater stands there
 abbrev pub at : Repeater → Core
-at r = withRepeater up r up.changes
+at r = with_repeater up r up.changes

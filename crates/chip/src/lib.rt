@@ -2,8 +2,8 @@
 // Power-up and reset; and what is noted when the repeater has moved. Chip and Supply are what the rules speak of, FlatChip and FlatSupply how they are kept.
 ghost use Rattle.std.specs.Prelude.{◌≡◌, false};
 ghost use Rattle.repeater.specs.Repeater.{quieted};
-ghost use Rattle.chip.specs.Chip.{usual, fits, refusalOf, settled_of, withChoices, coreUp, poweredUp, coreReset, movedBy, moved, one, totalled};
-ghost use Rattle.chip.specs.Flat.{supplyOf, poweredBy};
+ghost use Rattle.chip.specs.Chip.{usual, fits, refusal_of, settled_of, with_choices, core_up, powered_up, core_reset, moved_by, moved, one, totalled};
+ghost use Rattle.chip.specs.Flat.{supply_of, powered_by};
 
 use attributes::{Attributes, Flat, Nine};
 use ports::Quiet;
@@ -101,7 +101,7 @@ impl Choices {
 
     // 0, or the number that power-up turns it away with.
     pub fn refusal(self) -> u8
-        ensures { result ≡ refusalOf self }
+        ensures { result ≡ refusal_of self }
     {
         if self.fits() {
             return 0;
@@ -123,7 +123,7 @@ impl Choices {
 impl Core {
     // At power-up, with what it is given to keep.
     pub fn power_up(kept: Kept) -> Core
-        ensures { result ≡ coreUp kept }
+        ensures { result ≡ core_up kept }
     {
         let repeater = Repeater::power_up();
         Core {
@@ -138,7 +138,7 @@ impl Core {
 
     // After a reset.
     pub fn reset(self) -> Core
-        ensures { result ≡ coreReset self }
+        ensures { result ≡ core_reset self }
     {
         let kept = self.kept;
         Core::power_up(kept)
@@ -153,7 +153,7 @@ impl Core {
         sqe: bool,
         address: u16,
     ) -> Core
-        ensures { result ≡ movedBy self next partition loopback sqe address }
+        ensures { result ≡ moved_by self next partition loopback sqe address }
     {
         let repeater = self.repeater;
         let changes = self.changes;
@@ -206,7 +206,7 @@ impl Core {
 impl FlatChip {
     // At power-up.
     pub fn power_up(supply: FlatSupply) -> FlatPowered
-        ensures { poweredBy result ≡ poweredUp (supplyOf supply) }
+        ensures { powered_by result ≡ powered_up (supply_of supply) }
     {
         let mut kept = supply.kept;
         let choices = kept.choices;

@@ -6,7 +6,7 @@
 //
 // The second argument may name a start file. How many records were turned away is told on standard error.
 ghost use Rattle.std.specs.Prelude.{◌≡◌};
-ghost use Rattle.tally.specs.Tally.{cameTo};
+ghost use Rattle.tally.specs.Tally.{came_to};
 ghost use Rattle.tally.specs.Blocks.{onward};
 ghost use Rattle.export.specs.Taken.{wrapped};
 
@@ -32,7 +32,7 @@ struct Turn {
 
 // Takes the records of one reading, behind those before it.
 fn take_more(state: Tallied, input: &[u8]) -> Tallied
-    ensures { cameTo result ≡ wrapped (onward (cameTo state) input.now) }
+    ensures { came_to result ≡ wrapped (onward (came_to state) input.now) }
 {
     let core = state.core;
     let flat = state.flat;

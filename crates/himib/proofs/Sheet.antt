@@ -1,18 +1,18 @@
 -- Document 01, 'Boundary sheet': every starred row, its first two at each short event limit, and the sample run, by computing. Assumes nothing.
 use mathlib.Core.Path.{◌≡◌, refl}
 use mathlib.Core.Bool.{true}
-use Rattle.himib.specs.Runs.{happening, historyOf, run_of, history, answersIn, start, allAt}
-use Rattle.himib.specs.Sheet.{creditsIn, movedIn, same, led, allLed, holds, holding, sheet, limits, sample, sampleAnswers}
+use Rattle.himib.specs.Runs.{happening, history_of, run_of, history, answers_in, start, all_at}
+use Rattle.himib.specs.Sheet.{credits_in, moved_in, same, led, all_led, holds, holding, sheet, limits, sample, sample_answers}
 use Rattle.himib.proofs.Computing.{computing}
 
-pub boundary-sheet : holding sheet ≡ true
-unfolding computing happening run_of creditsIn movedIn same led allLed holds holding sheet
-boundary-sheet = refl
+pub boundary_sheet : holding sheet ≡ true
+unfolding computing happening run_of credits_in moved_in same led all_led holds holding sheet
+boundary_sheet = refl
 
-pub limits-hold : holding limits ≡ true
-unfolding computing happening run_of creditsIn movedIn same led allLed holds holding limits
-limits-hold = refl
+pub limits_hold : holding limits ≡ true
+unfolding computing happening run_of credits_in moved_in same led all_led holds holding limits
+limits_hold = refl
 
-pub sample-run : answersIn (history (start (allAt 0)) sample) ≡ sampleAnswers
-unfolding computing happening historyOf
-sample-run = refl
+pub sample_run : answers_in (history (start (all_at 0)) sample) ≡ sample_answers
+unfolding computing happening history_of
+sample_run = refl

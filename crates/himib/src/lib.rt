@@ -1,10 +1,10 @@
 // The HIMIB of document 01, above the repeater: a burst on the whole chip, and one record of any bytes. It uses what the crates below promise, and nothing
 // else of them.
 ghost use Rattle.std.specs.Prelude.{◌≡◌};
-ghost use Rattle.chip.specs.Flat.{holding, chipOf};
-ghost use Rattle.himib.specs.Bursts.{activityOf};
+ghost use Rattle.chip.specs.Flat.{holding, chip_of};
+ghost use Rattle.himib.specs.Bursts.{activity_of};
 ghost use Rattle.himib.specs.Step.{taken, step_of};
-ghost use Rattle.himib.specs.Flat.{steppedBy, Bursts, Follows};
+ghost use Rattle.himib.specs.Flat.{stepped_by, Bursts, Follows};
 
 use access::Acted;
 use answer::Answer;
@@ -63,7 +63,7 @@ pub struct Left {
 
 // The part of a burst record that is the repeater's.
 fn activity(b: Burst) -> Activity
-    ensures { result ≡ activityOf b }
+    ensures { result ≡ activity_of b }
 {
     Activity {
         mask: b.mask,
@@ -206,7 +206,7 @@ fn take_apart(
     asked: Asked,
     source: [u8; 6],
 ) -> Left
-    ensures { steppedBy result ≡ taken asked source (holding core counters0 addresses0) h }
+    ensures { stepped_by result ≡ taken asked source (holding core counters0 addresses0) h }
 {
     let mut counters = counters0;
     let mut addresses = addresses0;
@@ -229,7 +229,7 @@ fn take_apart(
 
 // After what a record asks for.
 pub fn take(chip: FlatChip, h: Host, asked: Asked, source: [u8; 6]) -> Left
-    ensures { steppedBy result ≡ taken asked source (chipOf chip) h }
+    ensures { stepped_by result ≡ taken asked source (chip_of chip) h }
 {
     let core = chip.core;
     let flat = chip.flat;
@@ -240,7 +240,7 @@ pub fn take(chip: FlatChip, h: Host, asked: Asked, source: [u8; 6]) -> Left
 
 // After any bytes.
 pub fn step(chip: FlatChip, h: Host, bytes: &[u8]) -> Left
-    ensures { steppedBy result ≡ step_of (chipOf chip) h bytes.now }
+    ensures { stepped_by result ≡ step_of (chip_of chip) h bytes.now }
 {
     let record = record::read_record(bytes);
     let asked = record.asked;

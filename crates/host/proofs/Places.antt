@@ -13,26 +13,26 @@ use lib.ListN.{length, get_or, set, get_or-eq_default}
 use Rattle.host.specs.declared.Reading.{Reading}
 use Rattle.host.specs.declared.Writing.{Writing}
 use Rattle.host.proofs.AnyRecord.{either_first}
-use Rattle.host.specs.Sequence.{selected, restarted, withSelection, withSequence, placeFor, is_last, nextPlace, copied, readByte, wroteByte}
+use Rattle.host.specs.Sequence.{selected, restarted, with_selection, with_sequence, place_for, is_last, next_place, copied, read_byte, wrote_byte}
 
 module _ (b : ℕ) (h : Host) where
-  pub selects-page : b < 32 → restarted (withSelection h b h.register) ≡ selected b h
+  pub selects_page : b < 32 → restarted (with_selection h b h.register) ≡ selected b h
   unfolding selected
-  selects-page l =
+  selects_page l =
       let q : b / 32 ≡ 0 = omega arith in
       let m : b % 32 ≡ b = omega arith in
       rw (q, m)
 
-  pub selects-register : 224 ≤ b → b < 256 → restarted (withSelection h h.page (b - 224)) ≡ selected b h
+  pub selects_register : 224 ≤ b → b < 256 → restarted (with_selection h h.page (b - 224)) ≡ selected b h
   unfolding selected
-  selects-register l u =
+  selects_register l u =
       let q : b / 32 ≡ 7 = omega arith in
       let m : b % 32 ≡ b - 224 = omega arith in
       rw (q, m)
 
-  pub selects-nothing : 32 ≤ b → b < 224 → h ≡ selected b h
+  pub selects_nothing : 32 ≤ b → b < 224 → h ≡ selected b h
   unfolding selected
-  selects-nothing l u = simp (ne_eqb (b / 32) 0 (λ e. omega arith), ne_eqb (b / 32) 7 (λ e. omega arith))
+  selects_nothing l u = simp (ne_eqb (b / 32) 0 (λ e. omega arith), ne_eqb (b / 32) 7 (λ e. omega arith))
 
 -- past the last element
 pub past : (bs : List ℕ) (i : ℕ) → length bs ≤ i → 0 ≡ get_or bs i 0
@@ -51,19 +51,19 @@ unfolding is_last
 not_last n i e = leb-false n (i + 1) e
 
 -- the place after a place
-pub next-on : (n i : ℕ) → i + 1 < n → nextPlace n i ≡ suc i
-unfolding nextPlace is_last
-next-on n i l = rw (lt-leb n (i + 1) l) (add-one i)
+pub next_on : (n i : ℕ) → i + 1 < n → next_place n i ≡ suc i
+unfolding next_place is_last
+next_on n i l = rw (lt-leb n (i + 1) l) (add-one i)
 
-pub next-over : (n i : ℕ) → n ≤ i + 1 → nextPlace n i ≡ 0
-unfolding nextPlace is_last
-next-over n i l = rw (le-leb n (i + 1) l)
+pub next_over : (n i : ℕ) → n ≤ i + 1 → next_place n i ≡ 0
+unfolding next_place is_last
+next_over n i l = rw (le-leb n (i + 1) l)
 
-pub next-cases : (n i : ℕ) → (nextPlace n i ≡ 0) ⊎ (nextPlace n i < n)
-unfolding nextPlace
-next-cases n i = go (is_last n i) refl
+pub next_cases : (n i : ℕ) → (next_place n i ≡ 0) ⊎ (next_place n i < n)
+unfolding next_place
+next_cases n i = go (is_last n i) refl
   where
-    go : (b : Bool) → is_last n i ≡ b → (nextPlace n i ≡ 0) ⊎ (nextPlace n i < n)
+    go : (b : Bool) → is_last n i ≡ b → (next_place n i ≡ 0) ⊎ (next_place n i < n)
     go true e = inl (rw e)
     go false e = inr (rw e (not_last n i e))
 
@@ -73,12 +73,12 @@ alike true = refl
 alike false = refl
 
 module _ (n : ℕ) (h : Host) (bs : List ℕ) where
-  pub goes_on : (w : Bool) (i : ℕ) → i < n → placeFor w n (withSequence h bs i w) ≡ i
-  unfolding placeFor
+  pub goes_on : (w : Bool) (i : ℕ) → i < n → place_for w n (with_sequence h bs i w) ≡ i
+  unfolding place_for
   goes_on w i l = simp (alike w, lt-ltb i n l)
 
-  pub at_first : (w t : Bool) → placeFor w n (withSequence h bs 0 t) ≡ 0
-  unfolding placeFor
+  pub at_first : (w t : Bool) → place_for w n (with_sequence h bs 0 t) ≡ 0
+  unfolding place_for
   at_first w t = go (beq t w) (ltb 0 n)
     where
       go : (x y : Bool) → ◌≡◌ {A = ℕ} (cond x (cond y 0 0) 0) 0
@@ -87,14 +87,14 @@ module _ (n : ℕ) (h : Host) (bs : List ℕ) where
 
 -- an access put together from its parts
 module _ (n : ℕ) (h : Host) where
-  pub read_made : (v bs : List ℕ) (i b k : ℕ) → i ≡ placeFor false n h → bs ≡ copied i v h.bytes → b ≡ get_or bs i 0
-      → k ≡ nextPlace n i
-      → ◌≡◌ {A = Reading} (record { host = withSequence h bs k false; byte = b }) (readByte n v h)
-  unfolding readByte
+  pub read_made : (v bs : List ℕ) (i b k : ℕ) → i ≡ place_for false n h → bs ≡ copied i v h.bytes → b ≡ get_or bs i 0
+      → k ≡ next_place n i
+      → ◌≡◌ {A = Reading} (record { host = with_sequence h bs k false; byte = b }) (read_byte n v h)
+  unfolding read_byte
   read_made v bs i b k p q r s = rw (s, r, q, p)
 
-  pub write-made : (bs : List ℕ) (i b k : ℕ) (l : Bool) → i ≡ placeFor true n h → bs ≡ set h.bytes i b
-      → k ≡ nextPlace n i → l ≡ is_last n i
-      → ◌≡◌ {A = Writing} (record { host = withSequence h bs k true; complete = l }) (wroteByte n b h)
-  unfolding wroteByte
-  write-made bs i b k l p q r s = rw (s, r, q, p)
+  pub write_made : (bs : List ℕ) (i b k : ℕ) (l : Bool) → i ≡ place_for true n h → bs ≡ set h.bytes i b
+      → k ≡ next_place n i → l ≡ is_last n i
+      → ◌≡◌ {A = Writing} (record { host = with_sequence h bs k true; complete = l }) (wrote_byte n b h)
+  unfolding wrote_byte
+  write_made bs i b k l p q r s = rw (s, r, q, p)

@@ -6,8 +6,8 @@ use native.Mathlib.Omega.{arith}
 use lib.ListN.{get_or}
 use Rattle.host.specs.Bytes.{spread_of}
 
-a-counter : spread_of 0x04030201 ≡ 1 ∷ 2 ∷ 3 ∷ 4 ∷ 0 ∷ 0 ∷ []
-a-counter = refl
+a_counter : spread_of 0x04030201 ≡ 1 ∷ 2 ∷ 3 ∷ 4 ∷ 0 ∷ 0 ∷ []
+a_counter = refl
 
 pub weighs : (v : ℕ) → v < 2 ^ 32
     → let bs = spread_of v in

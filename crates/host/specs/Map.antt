@@ -4,7 +4,7 @@
 --     table          == the registers, in document 01's order
 --     line_at p r     == the line on which P and R stand, or the line of what is not listed
 --     row_at p r      == what that line says of P and R: the register, its bytes, its ways, its role
---     registerAt p r == the register there
+--     register_at p r == the register there
 -- Assumes nothing.
 use Rattle.std.specs.Prelude.{ℕ, ◌-◌, Bool, true, false, ◌&&◌, ◌||◌, cond, List, [], ◌∷◌, leb, eqb}
 use Rattle.ports.specs.Sets.{aui}
@@ -66,31 +66,31 @@ line pages registers what size ways role =
     record { pages = pages; registers = registers; what = what; size = size; ways = ways; role = role }
 
 -- the ports' pages: TP0's, TP7's, AUI's; and the port of such a page
-abbrev pub tp0Page : ℕ
-tp0Page = 16
+abbrev pub tp0_page : ℕ
+tp0_page = 16
 
-abbrev pub tp7Page : ℕ
-tp7Page = 23
+abbrev pub tp7_page : ℕ
+tp7_page = 23
 
-abbrev pub auiPage : ℕ
-auiPage = 31
+abbrev pub aui_page : ℕ
+aui_page = 31
 
-abbrev pub portPages : List Range
-portPages = tp0Page to tp7Page ∷ only auiPage
+abbrev pub port_pages : List Range
+port_pages = tp0_page to tp7_page ∷ only aui_page
 
-abbrev pub portOf : ℕ → ℕ
-portOf p = cond (eqb p auiPage) aui (p - tp0Page)
+abbrev pub port_of : ℕ → ℕ
+port_of p = cond (eqb p aui_page) aui (p - tp0_page)
 
 -- the R of change bits, and of the enables for the same bits
-abbrev pub bitRegisters : List Range
-bitRegisters = 0 to 4 ∷ 6 to 7 ∷ []
+abbrev pub bit_registers : List Range
+bit_registers = 0 to 4 ∷ 6 to 7 ∷ []
 
 -- the R of a port's last counter, and of its address
-abbrev pub lastCounter : ℕ
-lastCounter = 12
+abbrev pub last_counter : ℕ
+last_counter = 12
 
-abbrev pub addressRegister : ℕ
-addressRegister = 14
+abbrev pub address_register : ℕ
+address_register = 14
 
 -- P, R, the register there, its bytes, its ways, its role; i is the port of P, r is R
 unfoldable pub table : List Line
@@ -100,22 +100,22 @@ table =
     ∷ line (only 0) (only 28) (λ i r. Version) 1 read (λ i r. Plain)
     ∷ line (only 0) (only 30) (λ i r. SetPort) 1 write (λ i r. Commands false)
     ∷ line (only 0) (only 31) (λ i r. GetPort) 1 both (λ i r. Commands true)
-    ∷ line (only 1) bitRegisters (λ i r. Change r) 1 read (λ i r. Cleared r)
-    ∷ line (only 2) bitRegisters (λ i r. Enable r) 1 both (λ i r. Enables r)
-    ∷ line portPages (0 to lastCounter ∷ []) (λ i r. Counter i r) 4 read (λ i r. Plain)
-    ∷ line portPages (only addressRegister) (λ i r. Address i) 6 both (λ i r. role.Address i)
+    ∷ line (only 1) bit_registers (λ i r. Change r) 1 read (λ i r. Cleared r)
+    ∷ line (only 2) bit_registers (λ i r. Enable r) 1 both (λ i r. Enables r)
+    ∷ line port_pages (0 to last_counter ∷ []) (λ i r. Counter i r) 4 read (λ i r. Plain)
+    ∷ line port_pages (only address_register) (λ i r. Address i) 6 both (λ i r. role.Address i)
     ∷ []
 
 -- what is not listed
-abbrev pub noLine : Line
-noLine = line [] [] (λ i r. Unlisted) 0 none (λ i r. Plain)
+abbrev pub no_line : Line
+no_line = line [] [] (λ i r. Unlisted) 0 none (λ i r. Plain)
 
 -- whether P and R stand on a line, and the line of a list on which they stand
 abbrev pub lists : Line → ℕ → ℕ → Bool
 lists line p r = within line.pages p && within line.registers r
 
 abbrev pub found : List Line → ℕ → ℕ → Line
-found [] p r = noLine
+found [] p r = no_line
 found (line ∷ more) p r = cond (lists line p r) line (found more p r)
 
 abbrev pub line_at : ℕ → ℕ → Line
@@ -126,14 +126,14 @@ abbrev pub row : Register → ℕ → Ways → Role → Row
 row register size ways role =
     record { register = register; size = size; readable = readable ways; writable = writable ways; role = role }
 
-abbrev pub rowOn : Line → ℕ → ℕ → Row
-rowOn line i r = row (line.what i r) line.size line.ways (line.role i r)
+abbrev pub row_on : Line → ℕ → ℕ → Row
+row_on line i r = row (line.what i r) line.size line.ways (line.role i r)
 
 abbrev pub no_row : Row
-no_row = rowOn noLine 0 0
+no_row = row_on no_line 0 0
 
 unfoldable pub row_at : ℕ → ℕ → Row
-row_at p r = rowOn (line_at p r) (portOf p) r
+row_at p r = row_on (line_at p r) (port_of p) r
 
-abbrev pub registerAt : ℕ → ℕ → Register
-registerAt p r = (row_at p r).register
+abbrev pub register_at : ℕ → ℕ → Register
+register_at p r = (row_at p r).register

@@ -3,7 +3,7 @@
 -- Assumes nothing.
 use Rattle.std.specs.Prelude.{ℕ}
 use Rattle.host.specs.declared.Row.{Row}
-use Rattle.host.specs.Map.{line_at, rowOn, tp0Page}
+use Rattle.host.specs.Map.{line_at, row_on, tp0_page}
 
-unfoldable pub portRow : ℕ → ℕ → Row
-portRow i r = rowOn (line_at tp0Page r) i r
+unfoldable pub port_row : ℕ → ℕ → Row
+port_row i r = row_on (line_at tp0_page r) i r

@@ -17,7 +17,7 @@ use Rattle.host.specs.declared.Register.TheVariants.{GetPort, Change, Enable, Co
 use Rattle.host.specs.declared.Role.{Role}
 use Rattle.host.specs.declared.Role.TheVariants.{Plain, Cleared, Commands, Enables}
 use Rattle.host.specs.declared.Role.TheVariants as role
-use Rattle.host.specs.Sequence.{powerUp, selected, readByte, wroteByte}
+use Rattle.host.specs.Sequence.{power_up, selected, read_byte, wrote_byte}
 
 pub record Spot : Type 0 where
   pub page : ℕ
@@ -105,8 +105,8 @@ pub data Step : Type 0 where
 abbrev pub told : Host → List Step → List ℕ
 told h [] = []
 told h (select byte ∷ steps) = 0 ∷ told (selected byte h) steps
-told h (read size value ∷ steps) = let t : Reading = readByte size value h in t.byte ∷ told t.host steps
-told h (write size byte ∷ steps) = let t : Writing = wroteByte size byte h in cond t.complete 1 0 ∷ told t.host steps
+told h (read size value ∷ steps) = let t : Reading = read_byte size value h in t.byte ∷ told t.host steps
+told h (write size byte ∷ steps) = let t : Writing = wrote_byte size byte h in cond t.complete 1 0 ∷ told t.host steps
 
 pub record Said : Type 0 where
   pub start : Host
@@ -114,7 +114,7 @@ pub record Said : Type 0 where
   pub shown : List ℕ
 
 abbrev pub said : List Step → List ℕ → Said
-said steps shown = record { start = powerUp; steps = steps; shown = shown }
+said steps shown = record { start = power_up; steps = steps; shown = shown }
 
 -- a register of four bytes and one of six, before and after they change
 abbrev pub four : Step

@@ -1,10 +1,10 @@
 // The host's side of the registers: the small record of an access (selection, copied bytes, byte place, direction), the map
 // from a page P and a register number R to a register's row, and the byte sequences. What the registers hold is the caller's.
 ghost use Rattle.std.specs.Prelude.{◌≡◌, ◌%◌, get_or, set};
-ghost use Rattle.host.specs.Bytes.{spread_of, singleOf};
-ghost use Rattle.host.specs.Map.{row_at, row, no_row, read, write, both, within, bitRegisters};
-ghost use Rattle.host.specs.Parts.{portRow};
-ghost use Rattle.host.specs.Sequence.{powerUp, restarted, selected, placeFor, is_last, nextPlace, copied, readByte, wroteByte};
+ghost use Rattle.host.specs.Bytes.{spread_of, single_of};
+ghost use Rattle.host.specs.Map.{row_at, row, no_row, read, write, both, within, bit_registers};
+ghost use Rattle.host.specs.Parts.{port_row};
+ghost use Rattle.host.specs.Sequence.{power_up, restarted, selected, place_for, is_last, next_place, copied, read_byte, wrote_byte};
 
 // What only power-up, resets and accesses alter: the selection, the six copied bytes, the place of the next byte, and whether
 // the last accepted D access was a write.
@@ -142,7 +142,7 @@ impl Host {
 
     // The record at power-up and after a reset.
     pub fn power_up() -> Host
-        ensures { result ≡ powerUp }
+        ensures { result ≡ power_up }
     {
         Host {
             page: 0,
@@ -184,7 +184,7 @@ fn chip_row(register: u8) -> Row
 
 // Whether R names change bits, and the enables of the same bits.
 fn has_bits(register: u8) -> bool
-    ensures { result ≡ within bitRegisters register }
+    ensures { result ≡ within bit_registers register }
 {
     if register == 5 {
         return false;
@@ -214,7 +214,7 @@ fn enable_row(register: u8) -> Row
 
 // A port's page.
 fn port_row(port: u8, register: u8) -> Row
-    ensures { result ≡ portRow port register }
+    ensures { result ≡ port_row port register }
 {
     match register {
         0..=12 => Row::read(Register::Counter(port, register), 4, Role::Plain),
@@ -250,7 +250,7 @@ pub fn select(mut host: Host, byte: u8) -> Host
 // The place of the byte that a D access takes: where the sequence stands, but the first byte after a turn and where that
 // place is past the register's last.
 fn place_for(host: Host, writing: bool, size: u8) -> u8
-    ensures { result ≡ placeFor writing size host }
+    ensures { result ≡ place_for writing size host }
 {
     if host.writing == writing {
         if host.place < size {
@@ -273,7 +273,7 @@ fn is_last(place: u8, size: u8) -> bool
 
 // The place after a place: the first again after the last.
 fn next_place(place: u8, size: u8) -> u8
-    ensures { result ≡ nextPlace size place }
+    ensures { result ≡ next_place size place }
 {
     if is_last(place, size) {
         return Host::FIRST;
@@ -317,7 +317,7 @@ fn with_byte(bytes: [u8; 6], place: u8, byte: u8) -> [u8; 6]
 
 // A D read of a register of `size` bytes that now holds `value`, the byte that is read first in front.
 pub fn read_byte(mut host: Host, size: u8, value: [u8; 6]) -> Reading
-    ensures { result ≡ readByte size value host }
+    ensures { result ≡ read_byte size value host }
 {
     let place = place_for(host, false, size);
     let held = host.bytes;
@@ -331,7 +331,7 @@ pub fn read_byte(mut host: Host, size: u8, value: [u8; 6]) -> Reading
 
 // A D write to a register of `size` bytes. When it is complete, the bytes written are the first of the record's.
 pub fn write_byte(mut host: Host, size: u8, byte: u8) -> Writing
-    ensures { result ≡ wroteByte size byte host }
+    ensures { result ≡ wrote_byte size byte host }
 {
     let place = place_for(host, true, size);
     let held = host.bytes;
@@ -369,7 +369,7 @@ fn low_byte(number: u32) -> u8
 
 // One byte, and five zeros.
 pub fn single(byte: u8) -> [u8; 6]
-    ensures { result ≡ singleOf byte }
+    ensures { result ≡ single_of byte }
 {
     [byte, 0, 0, 0, 0, 0]
 }

@@ -8,40 +8,40 @@ use lib.ListN.{replicate}
 use Rattle.record.specs.declared.Asked as Ask
 use Rattle.record.specs.declared.Asked.TheVariants as ask
 use Rattle.record.specs.declared.Record.{Record}
-use Rattle.record.specs.Refusals.{recordOf, first_of}
+use Rattle.record.specs.Refusals.{record_of, first_of}
 use Rattle.host.specs.declared.Host.{Host}
 use Rattle.answer.specs.declared.Answer.{Answer}
 use Rattle.answer.specs.declared.Answer.TheVariants.{Refused}
 use Rattle.attributes.specs.declared.Nine.{Nine}
-use Rattle.attributes.specs.Flat.{flatSize, spotsSize, listed, recordAt, nineOf}
+use Rattle.attributes.specs.Flat.{flat_size, spots_size, listed, record_at, nine_of}
 use Rattle.chip.specs.declared.Chip.{Chip}
 use Rattle.chip.specs.declared.FlatChip.{FlatChip}
-use Rattle.chip.specs.Chip.{chipUp}
-use Rattle.chip.specs.Flat.{chipOf}
+use Rattle.chip.specs.Chip.{chip_up}
+use Rattle.chip.specs.Flat.{chip_of}
 use Rattle.access.specs.declared.Acted.{Acted}
-use Rattle.access.specs.Access.{selectedBy}
+use Rattle.access.specs.Access.{selected_by}
 use Rattle.access.specs.Refusals.{rows_of, is_refused, Left}
 use Rattle.access.proofs.Refused.{left}
 use Rattle.himib.specs.declared.Stepped.{Stepped}
-use Rattle.himib.specs.Bursts.{notedOn, burstOn}
-use Rattle.himib.specs.Step.{afterAccess, turned, taken, step_of}
+use Rattle.himib.specs.Bursts.{noted_on, burst_on}
+use Rattle.himib.specs.Step.{after_access, turned, taken, step_of}
 use Rattle.himib.specs.Refusals.{Settled}
-use Rattle.himib.specs.Runs.{allAt}
-use Rattle.himib.proofs.HimibLaws.{addressed-nobody}
+use Rattle.himib.specs.Runs.{all_at}
+use Rattle.himib.proofs.HimibLaws.{addressed_nobody}
 use Rattle.himib.proofs.Computing.{computing}
 use Rattle.lent.specs.declared.Rest.{Rest}
-use Rattle.lent.specs.Lent.{together, requested, cWrite}
+use Rattle.lent.specs.Lent.{together, requested, c_write}
 
 -- an address half written, three of its six bytes
 abbrev half : Host
 half = record { page = 31; register = 14; bytes = 1 ∷ 2 ∷ 3 ∷ 0 ∷ 0 ∷ 0 ∷ []; place = 3; writing = true }
 
 abbrev up : Chip
-up = chipUp (allAt 0)
+up = chip_up (all_at 0)
 
 -- the same chip as it is kept
-abbrev flatUp : FlatChip
-flatUp = record { core = up.core; flat = record { counters = replicate flatSize 0; addresses = replicate spotsSize 0 } }
+abbrev flat_up : FlatChip
+flat_up = record { core = up.core; flat = record { counters = replicate flat_size 0; addresses = replicate spots_size 0 } }
 
 module _ (c : Chip) (h : Host) (k : ℕ) where
   abbrev Keeps : Stepped → Type 0
@@ -52,46 +52,46 @@ module _ (c : Chip) (h : Host) (k : ℕ) where
   keeps none s w e = absurd (true≢false (sym (ap is_refused e) ∙ w))
   keeps (some j) s w e = w ∙ ap (λ (a : Answer). record { chip = c; host = h; answer = a }) (sym (ap (λ (t : Stepped). t.answer) w) ∙ e)
 
-  accesses : (o : Option ℕ) (t : Acted) → Left o c.core h t → Keeps (afterAccess c.attributes t)
+  accesses : (o : Option ℕ) (t : Acted) → Left o c.core h t → Keeps (after_access c.attributes t)
   accesses none t w = keeps none _ w
   accesses (some j) t w =
       keeps (some j) _
-      (ap (afterAccess c.attributes) w
-      ∙ ap (λ (nine : Nine). turned (record { core = c.core; attributes = nine }) h j) (addressed-nobody h.bytes c.attributes))
+      (ap (after_access c.attributes) w
+      ∙ ap (λ (nine : Nine). turned (record { core = c.core; attributes = nine }) h j) (addressed_nobody h.bytes c.attributes))
 
   takes : (asked : Ask.Asked) (source : List ℕ) → Keeps (taken asked source c h)
-  unfolding taken notedOn burstOn
+  unfolding taken noted_on burst_on
   takes (ask.Burst b) source = keeps none _ refl
   takes (ask.Quiet q) source = keeps none _ refl
-  takes (ask.Access a) source = accesses (first_of (rows_of a (selectedBy h))) _ (left c.core c.attributes h a)
+  takes (ask.Access a) source = accesses (first_of (rows_of a (selected_by h))) _ (left c.core c.attributes h a)
   takes ask.Reset source = keeps none _ refl
   takes (ask.Refused j) source = keeps (some j) _ refl
 
 -- A C write that selects nothing leaves an address half written as it was.
-selecting-nothing : ((requested (cWrite 0x40) up half).answer ≡ Refused 7) × (requested (cWrite 0x40) up half ≡ turned up half 7)
+selecting_nothing : ((requested (c_write 0x40) up half).answer ≡ Refused 7) × (requested (c_write 0x40) up half ≡ turned up half 7)
 unfolding computing
-selecting-nothing = (refl, refl)
+selecting_nothing = (refl, refl)
 
 -- Whatever is turned away leaves chip and record as they were.
 pub kept : (q : Record) (c : Chip) (h : Host) (k : ℕ) → (requested q c h).answer ≡ Refused k → requested q c h ≡ turned c h k
 kept q c h k e = takes c h k q.asked q.source e
 
 -- So does a function over the lent record: the record that it leaves is the one that it was lent, and its chip stands for the one that it was given.
-left-half : together (record { chip = flatUp; answer = Refused 7 }) half ≡ requested (cWrite 0x40) up half
-unfolding computing listed recordAt nineOf
-left-half = refl
+left_half : together (record { chip = flat_up; answer = Refused 7 }) half ≡ requested (c_write 0x40) up half
+unfolding computing listed record_at nine_of
+left_half = refl
 
-pub lent-kept : (q : Record) (c : FlatChip) (h : Host) (r : Rest) (z : Host) (k : ℕ) → together r z ≡ requested q (chipOf c) h → r.answer ≡ Refused k
-    → (chipOf r.chip ≡ chipOf c) × (z ≡ h)
-lent-kept q c h r z k e d =
-    let t : together r z ≡ turned (chipOf c) h k = e ∙ kept q (chipOf c) h k (sym (ap (λ (s : Stepped). s.answer) e) ∙ d) in
+pub lent_kept : (q : Record) (c : FlatChip) (h : Host) (r : Rest) (z : Host) (k : ℕ) → together r z ≡ requested q (chip_of c) h → r.answer ≡ Refused k
+    → (chip_of r.chip ≡ chip_of c) × (z ≡ h)
+lent_kept q c h r z k e d =
+    let t : together r z ≡ turned (chip_of c) h k = e ∙ kept q (chip_of c) h k (sym (ap (λ (s : Stepped). s.answer) e) ∙ d) in
     (ap (λ (s : Stepped). s.chip) t, ap (λ (s : Stepped). s.host) t)
 
 -- The same of a whole record, of any bytes: one of 31 bytes is turned away with 9.
-a-byte-short : step_of up half (replicate 31 0) ≡ turned up half 9
+a_byte_short : step_of up half (replicate 31 0) ≡ turned up half 9
 unfolding computing
-a-byte-short = refl
+a_byte_short = refl
 
 pub step_kept : (c : Chip) (h : Host) (bs : List ℕ) (k : ℕ) → (step_of c h bs).answer ≡ Refused k → step_of c h bs ≡ turned c h k
 unfolding step_of
-step_kept c h bs k e = kept (recordOf bs) c h k e
+step_kept c h bs k e = kept (record_of bs) c h k e

@@ -1,6 +1,6 @@
 -- Calls of `take`, and the end of a walk that passes its lent record on to it: a request stands in local 4, the record's reference is handed to `take`
 -- with the chip of local 2, and what `take` gives back is returned. Local 3 is the function's own, of any type.
---   Take, to_take, goes-take == the contract of `take`, what it binds outside at a call, and that what it asks is had
+--   Take, to_take, goes_take == the contract of `take`, what it binds outside at a call, and that what it asks is had
 --   Said             == what it ensures of the answer and of the record that it leaves
 --   took             == `take` has returned
 --   passed_on, passes_on == the last statements of such a body, and their walk: from the request in local 4 to the function's exit
@@ -33,14 +33,14 @@ use denote.Triple.Clauses.{ensured, lasts}
 use Rattle.host.specs.declared.Host.{Host}
 use Rattle.host.specs.contracts.Host as Hst
 use Rattle.chip.specs.declared.FlatChip.{FlatChip}
-use Rattle.chip.specs.Flat.{chipOf}
+use Rattle.chip.specs.Flat.{chip_of}
 use Rattle.chip.specs.contracts.FlatChip as Chp
 use Rattle.record.specs.declared.Record.{Record}
 use Rattle.record.specs.contracts.Record as Rqs
 use Rattle.lent.specs.declared.Rest.{Rest}
 use Rattle.lent.specs.Lent.{together, requested}
 use Rattle.lent.specs.contracts.Rest as Rst
-use Rattle.lent.proofs.Walk.{chipVal, hostTy, chipTy, requestTy, restTy, givenTy, lentTy, lent_at, restFits, chipOwned, requestOwned}
+use Rattle.lent.proofs.Walk.{chip_val, host_ty, chip_ty, request_ty, rest_ty, given_ty, lent_ty, lent_at, rest_fits, chip_owned, request_owned}
 use Rattle.lent.specs.contracts.take as take
 use Rattle.lent.proofs.take.Symbol.{name as #take}
 
@@ -50,27 +50,27 @@ module _ {M : Type 1} {𝓤 : Ura M} (𝓛 : Logic 𝓤) (at_mem : Memory → SP
 
 abbrev pub passed_on : Body
 passed_on =
-    seq (assign (place 5 []) (addr_of (place 1 (deref hostTy ∷ []))))
+    seq (assign (place 5 []) (addr_of (place 1 (deref host_ty ∷ []))))
     (seq (call #take (copy (place 5 []) ∷ copy (place 2 []) ∷ copy (place 4 []) ∷ []) (place 0 [])) return)
 
 -- a call with the record h at (b, o), lent for κ under the name γ, with the chip c, and with the request r, whose machine value is v
 module _ {M : Type 1} {𝓤 : Ura M} (𝓛 : Logic 𝓤) (at_mem : Memory → SProp 𝓤) (run : Routine → Fun 𝓤)
-    (κ : Lft) (q : Share) (b o : ℕ) (γ : GName) (h : Host) (c : FlatChip) (gc : Is Chp.the_row c (chipVal c ∷ []))
+    (κ : Lft) (q : Share) (b o : ℕ) (γ : GName) (h : Host) (c : FlatChip) (gc : Is Chp.the_row c (chip_val c ∷ []))
     (r : Record) (v : Val) (gr : Is Rqs.the_row r (v ∷ [])) where
   open 𝓛 use {H, A}
 
   abbrev pub to_take : (Take 𝓛 at_mem run).Ghost
-  to_take = (((κ, tt), (q, tt), tt, (lent_at b o γ h, (c, (r, tt))), (vptr b o ∷ [], (chipVal c ∷ [], (v ∷ [], tt)))), tt)
+  to_take = (((κ, tt), (q, tt), tt, (lent_at b o γ h, (c, (r, tt))), (vptr b o ∷ [], (chip_val c ∷ [], (v ∷ [], tt)))), tt)
 
-  pub goes-take : ent 𝓤 (sep 𝓤 (A.lft κ q) (sem 𝓛 ((MutRef (named 0) κ Hst.the_row).own_val (lent_at b o γ h) (vptr b o ∷ []))))
+  pub goes_take : ent 𝓤 (sep 𝓤 (A.lft κ q) (sem 𝓛 ((MutRef (named 0) κ Hst.the_row).own_val (lent_at b o γ h) (vptr b o ∷ []))))
       ((Take 𝓛 at_mem run).pre to_take)
-  goes-take =
+  goes_take =
       qed 𝓛 (‵ (flft κ q) ∷ ‵ ((MutRef (named 0) κ Hst.the_row).own_val (lent_at b o γ h) (vptr b o ∷ [])) ∷ []) ∵
-      nothing ! $ move ! (1 ∷ 0 ∷ []) $ join ! $ nothing ! $ requestOwned 𝓛 ! r v gr $ fjoin ! $ chipOwned 𝓛 ! c (chipVal c) gc $ fjoin ! $
+      nothing ! $ move ! (1 ∷ 0 ∷ []) $ join ! $ nothing ! $ request_owned 𝓛 ! r v gr $ fjoin ! $ chip_owned 𝓛 ! c (chip_val c) gc $ fjoin ! $
       move ! (2 ∷ 0 ∷ []) $ fjoin ! $ move ! (1 ∷ 0 ∷ []) $ join ! $ frame ! $ done !
 
   abbrev pub Said : Rest → Host → Type 0
-  Said a z = together a z ≡ requested r (chipOf c) h
+  Said a z = together a z ≡ requested r (chip_of c) h
 
   abbrev Ensured : Rest → SProp 𝓤
   Ensured a = ensured 𝓛 take.ended (take.clauses 𝓛 at_mem run) (κ, tt) (lent_at b o γ h, (c, (r, tt))) tt a
@@ -96,24 +96,24 @@ module _ {M : Type 1} {𝓤 : Ura M} (𝓛 : Logic 𝓤) (at_mem : Memory → SP
       (exits : (a : Rest) (w : Val) (z : Host) → Is Rst.the_row a (w ∷ []) → Said a z
       → ent 𝓤 (⋆ 𝓛 (‵ (flft κ q) ∷ ‵ (fres γ ((Hst.the_row).coded.code z)) ∷ X ∷ [])) (Post w)) where
     abbrev pub En : Env 𝓤 H
-    En = (restTy, l₀) ∷ (givenTy, l₁) ∷ (chipTy, l₂) ∷ (third, l₃) ∷ (requestTy, l₄) ∷ (lentTy, l₅) ∷ []
+    En = (rest_ty, l₀) ∷ (given_ty, l₁) ∷ (chip_ty, l₂) ∷ (third, l₃) ∷ (request_ty, l₄) ∷ (lent_ty, l₅) ∷ []
 
     pub passes_on : Sq 𝓛
         (‵ (flft κ q) ∷ ‵ ((MutRef (named 0) κ Hst.the_row).own_val (lent_at b o γ h) (vptr b o ∷ [])) ∷ X
-        ∷ ‵ (froom lentTy l₅ 0) ∷ ‵ (fdies lentTy l₅) ∷ ‵ (fat full_share requestTy l₄ 0 v) ∷ ‵ (fdies requestTy l₄)
-        ∷ ‵ (fat full_share third l₃ 0 u) ∷ ‵ (fdies third l₃) ∷ ‵ (fat full_share chipTy l₂ 0 (chipVal c)) ∷ ‵ (fdies chipTy l₂)
-        ∷ ‵ (fat full_share givenTy l₁ 0 (vptr b o)) ∷ ‵ (fdies givenTy l₁) ∷ ‵ (froom restTy l₀ 0) ∷ ‵ (fdies restTy l₀) ∷ [])
+        ∷ ‵ (froom lent_ty l₅ 0) ∷ ‵ (fdies lent_ty l₅) ∷ ‵ (fat full_share request_ty l₄ 0 v) ∷ ‵ (fdies request_ty l₄)
+        ∷ ‵ (fat full_share third l₃ 0 u) ∷ ‵ (fdies third l₃) ∷ ‵ (fat full_share chip_ty l₂ 0 (chip_val c)) ∷ ‵ (fdies chip_ty l₂)
+        ∷ ‵ (fat full_share given_ty l₁ 0 (vptr b o)) ∷ ‵ (fdies given_ty l₁) ∷ ‵ (froom rest_ty l₀ 0) ∷ ‵ (fdies rest_ty l₀) ∷ [])
         (runs C Λ En passed_on (at_ret En Post))
     passes_on =
         assigns ! (addr ! (from ! (hop ! (look ! 11 refl) (stop !)))) (from ! (stop !)) (init ! 3 refl (tt, tt)) $
-        use2 𝓛 (raw ((Take 𝓛 at_mem run).pre to_take)) goes-take $
+        use2 𝓛 (raw ((Take 𝓛 at_mem run).pre to_take)) goes_take $
         -- [what `take` asks; X; _5; …; _4; …; _3; …; _2; …; _1; …; room for _0; …]
         calls_at ! fm (Take 𝓛 at_mem run) known to_take
         (and_then ! (load ! (from ! (stop !)) (look ! 2 refl))
         (and_then ! (load ! (from ! (stop !)) (look ! 8 refl)) (and_then ! (load ! (from ! (stop !)) (look ! 4 refl)) (no_more !)))) (λ w.
         took ! w tt (λ a z is e.
         -- [the token; the last record; X; _5; …; room for _0; …]
-        land ! (from ! (stop !)) (init ! 13 refl (restFits 𝓛 a w is)) $
+        land ! (from ! (stop !)) (init ! 13 refl (rest_fits 𝓛 a w is)) $
         returns ! (look ! 13 refl) $ forget ! 3 refl $ forget ! 5 refl $ forget ! 7 refl $ forget ! 9 refl $ forget ! 11 refl $ forget ! 13 refl $
         move ! (13 ∷ 14 ∷ []) $ free1 ! $ move ! (11 ∷ 12 ∷ []) $ free1 ! $ move ! (9 ∷ 10 ∷ []) $ free1 ! $
         move ! (7 ∷ 8 ∷ []) $ free1 ! $ move ! (5 ∷ 6 ∷ []) $ free1 ! $ move ! (3 ∷ 4 ∷ []) $ free1 ! $ free0 ! $ by ! (exits a w z is e)))

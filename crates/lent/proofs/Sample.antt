@@ -4,24 +4,24 @@ use Prim.Native.Nat.{ℕ}
 use mathlib.Core.Path.{◌≡◌, refl}
 use mathlib.Core.List.{List, [], ◌∷◌, ◌++◌}
 use lib.ListN.{length, replicate, take}
-use Rattle.record.specs.Records.{cWriteRecord, dReadRecord}
+use Rattle.record.specs.Records.{c_write_record, d_read_record}
 use Rattle.answer.specs.declared.Answer.TheVariants.{Done, Value, Refused}
-use Rattle.chip.specs.Chip.{chipUp}
-use Rattle.himib.specs.Runs.{happening, historyOf, allAt}
+use Rattle.chip.specs.Chip.{chip_up}
+use Rattle.himib.specs.Runs.{happening, history_of, all_at}
 use Rattle.himib.proofs.Computing.{computing}
-use Rattle.lent.specs.Lists.{pieces, cutOff, answersToAll, laid, laidAll}
+use Rattle.lent.specs.Lists.{pieces, cut_off, answers_to_all, laid, laid_all}
 
 abbrev list : List ℕ
-list = cWriteRecord 0x10 ++ cWriteRecord 0xe0 ++ dReadRecord ++ take 5 dReadRecord
+list = c_write_record 0x10 ++ c_write_record 0xe0 ++ d_read_record ++ take 5 d_read_record
 
-four-pieces : pieces (length list) ≡ 4
-four-pieces = refl
+four_pieces : pieces (length list) ≡ 4
+four_pieces = refl
 
-the-answers : answersToAll (chipUp (allAt 0)) list ≡ Done ∷ Done ∷ Value 0 ∷ Refused 9 ∷ []
-unfolding cutOff happening historyOf computing
-the-answers = refl
+the_answers : answers_to_all (chip_up (all_at 0)) list ≡ Done ∷ Done ∷ Value 0 ∷ Refused 9 ∷ []
+unfolding cut_off happening history_of computing
+the_answers = refl
 
 -- the buffer has room for three answers: the fourth is left out, and the last two bytes stay
-the-buffer : laidAll (replicate 11 7) 0 (Done ∷ Done ∷ Value 0 ∷ Refused 9 ∷ []) ≡ 0 ∷ 0 ∷ 0 ∷ 0 ∷ 0 ∷ 0 ∷ 4 ∷ 0 ∷ 0 ∷ 7 ∷ 7 ∷ []
-unfolding laid laidAll
-the-buffer = refl
+the_buffer : laid_all (replicate 11 7) 0 (Done ∷ Done ∷ Value 0 ∷ Refused 9 ∷ []) ≡ 0 ∷ 0 ∷ 0 ∷ 0 ∷ 0 ∷ 0 ∷ 4 ∷ 0 ∷ 0 ∷ 7 ∷ 7 ∷ []
+unfolding laid laid_all
+the_buffer = refl

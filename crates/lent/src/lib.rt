@@ -1,10 +1,10 @@
 // The host's record, lent: the caller keeps it, and each access alters it where it stands. The work is done by value; the functions here
 // take the record out whole and put it back whole. It starts as `host::Host::power_up()`, and that is what a reset leaves in it.
 ghost use Rattle.std.specs.Prelude.{◌≡◌};
-ghost use Rattle.chip.specs.Flat.{chipOf};
+ghost use Rattle.chip.specs.Flat.{chip_of};
 ghost use Rattle.himib.specs.Step.{step_of};
-ghost use Rattle.himib.specs.Flat.{steppedBy};
-ghost use Rattle.lent.specs.Lent.{together, requested, bare, requestFor, cWrite, cRead, dWrite, dRead};
+ghost use Rattle.himib.specs.Flat.{stepped_by};
+ghost use Rattle.lent.specs.Lent.{together, requested, bare, request_for, c_write, c_read, d_write, d_read};
 
 pub mod lists;
 
@@ -23,7 +23,7 @@ pub struct Rest {
 
 // A request on a chip and a host's record, by value.
 fn take_by_value(host: Host, chip: FlatChip, request: Record) -> Left
-    ensures { steppedBy result ≡ requested request (chipOf chip) host }
+    ensures { stepped_by result ≡ requested request (chip_of chip) host }
 {
     let asked = request.asked;
     let source = request.source;
@@ -32,7 +32,7 @@ fn take_by_value(host: Host, chip: FlatChip, request: Record) -> Left
 
 // The same on a lent record.
 fn take(host: &mut Host, chip: FlatChip, request: Record) -> Rest
-    ensures { together result host.new ≡ requested request (chipOf chip) host.old }
+    ensures { together result host.new ≡ requested request (chip_of chip) host.old }
 {
     let h = *host;
     let s = take_by_value(h, chip, request);
@@ -45,7 +45,7 @@ fn take(host: &mut Host, chip: FlatChip, request: Record) -> Rest
 
 // A C write.
 pub fn write_c(host: &mut Host, chip: FlatChip, byte: u8) -> Rest
-    ensures { together result host.new ≡ requested (cWrite byte) (chipOf chip) host.old }
+    ensures { together result host.new ≡ requested (c_write byte) (chip_of chip) host.old }
 {
     let request = c_write(byte);
     take(host, chip, request)
@@ -53,7 +53,7 @@ pub fn write_c(host: &mut Host, chip: FlatChip, byte: u8) -> Rest
 
 // A D write.
 pub fn write_d(host: &mut Host, chip: FlatChip, byte: u8) -> Rest
-    ensures { together result host.new ≡ requested (dWrite byte) (chipOf chip) host.old }
+    ensures { together result host.new ≡ requested (d_write byte) (chip_of chip) host.old }
 {
     let request = d_write(byte);
     take(host, chip, request)
@@ -61,7 +61,7 @@ pub fn write_d(host: &mut Host, chip: FlatChip, byte: u8) -> Rest
 
 // A C read.
 pub fn read_c(host: &mut Host, chip: FlatChip) -> Rest
-    ensures { together result host.new ≡ requested cRead (chipOf chip) host.old }
+    ensures { together result host.new ≡ requested c_read (chip_of chip) host.old }
 {
     let access = Access::ReadC;
     let request = request_for(access);
@@ -70,7 +70,7 @@ pub fn read_c(host: &mut Host, chip: FlatChip) -> Rest
 
 // A D read.
 pub fn read_d(host: &mut Host, chip: FlatChip) -> Rest
-    ensures { together result host.new ≡ requested dRead (chipOf chip) host.old }
+    ensures { together result host.new ≡ requested d_read (chip_of chip) host.old }
 {
     let access = Access::ReadD;
     let request = request_for(access);
@@ -79,7 +79,7 @@ pub fn read_d(host: &mut Host, chip: FlatChip) -> Rest
 
 // A record of any bytes, of any length.
 pub fn step(host: &mut Host, chip: FlatChip, bytes: &[u8]) -> Rest
-    ensures { together result host.new ≡ step_of (chipOf chip) host.old bytes.now }
+    ensures { together result host.new ≡ step_of (chip_of chip) host.old bytes.now }
 {
     let request = record::read_record(bytes);
     take(host, chip, request)
@@ -87,7 +87,7 @@ pub fn step(host: &mut Host, chip: FlatChip, bytes: &[u8]) -> Rest
 
 // An access as a request.
 fn request_for(access: Access) -> Record
-    ensures { result ≡ requestFor access }
+    ensures { result ≡ request_for access }
 {
     bare(Asked::Access(access))
 }
@@ -104,7 +104,7 @@ fn bare(asked: Asked) -> Record
 
 // What a C write asks for: a byte that selects neither P nor R is turned away.
 fn c_write(byte: u8) -> Record
-    ensures { result ≡ cWrite byte }
+    ensures { result ≡ c_write byte }
 {
     if record::selects_neither(byte) {
         return bare(Asked::Refused(7));
@@ -114,7 +114,7 @@ fn c_write(byte: u8) -> Record
 
 // What a D write asks for.
 fn d_write(byte: u8) -> Record
-    ensures { result ≡ dWrite byte }
+    ensures { result ≡ d_write byte }
 {
     request_for(Access::WriteD(byte))
 }

@@ -1,8 +1,8 @@
 // Lists of records, with a host's record that is lent to each in turn.
 ghost use Rattle.std.specs.Prelude.{◌≡◌, ◌<◌, length};
-ghost use Rattle.record.specs.Refusals.{recordOf};
-ghost use Rattle.chip.specs.Flat.{chipOf};
-ghost use Rattle.lent.specs.Lists.{pieces, piece, wordNumber, told, toldOf, laid, chipAfterAll, answersLaid};
+ghost use Rattle.record.specs.Refusals.{record_of};
+ghost use Rattle.chip.specs.Flat.{chip_of};
+ghost use Rattle.lent.specs.Lists.{pieces, piece, word_number, told, told_of, laid, chip_after_all, answers_laid};
 
 use answer::Answer;
 use burst::Word;
@@ -21,7 +21,7 @@ pub struct Told {
 // All the records of a list on a chip. They are pieces of a record's length, of which the last may be short; the host's record starts as
 // at power-up. Each answer has its bytes of the buffer, in order; an answer that does not fit whole is left out.
 pub fn answer_all(chip: FlatChip, records: &[u8], answers: &mut [u8]) -> FlatChip
-    ensures { (chipOf result ≡ chipAfterAll (chipOf chip) records.now) × (answers.new ≡ answersLaid (chipOf chip) records.now answers.old) }
+    ensures { (chip_of result ≡ chip_after_all (chip_of chip) records.now) × (answers.new ≡ answers_laid (chip_of chip) records.now answers.old) }
 {
     let n = count(records.len());
     let mut host = Host::power_up();
@@ -50,7 +50,7 @@ fn count(n: usize) -> usize
 // What a piece asks for.
 fn request_at(records: &[u8], i: usize) -> Record
     requires { i < pieces (length records.now) }
-    ensures { result ≡ recordOf (piece records.now i) }
+    ensures { result ≡ record_of (piece records.now i) }
 {
     let start = Record::LENGTH * i;
     if records.len() - start < Record::LENGTH {
@@ -80,7 +80,7 @@ impl Told {
 
 // What is told of an answer.
 fn tell(a: Answer) -> Told
-    ensures { result ≡ toldOf a }
+    ensures { result ≡ told_of a }
 {
     match a {
         Answer::Done => tell_of(0, 0),
@@ -103,7 +103,7 @@ fn tell_of(word: u8, amount: u16) -> Told
 
 // The number of a burst's word.
 fn number(word: Word) -> u8
-    ensures { result ≡ wordNumber word }
+    ensures { result ≡ word_number word }
 {
     match word {
         Word::Nil => 1,

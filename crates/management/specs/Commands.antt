@@ -2,9 +2,9 @@
 --   Row                 == a row of the table: a byte and its command, or eight bytes from one on, whose last three bits name the TP port of the command
 --   ones, eights, table == the rows of one byte, those of eight, and all of them
 --   found rows byte     == the command of the byte in these rows, or Unlisted
---   commandOf byte      == the command of the byte; 45 bytes are listed, 211 are not
+--   command_of byte      == the command of the byte; 45 bytes are listed, 211 are not
 --   row_of byte          == the command of a byte that is none of `ones`
---   listedBelow n       == how many of the bytes below n are commands
+--   listed_below n       == how many of the bytes below n are commands
 -- Assumes nothing.
 use Rattle.std.specs.Prelude.{ℕ, zero, suc, ◌+◌, ◌-◌, Bool, cond, ◌&&◌, List, [], ◌∷◌, ◌++◌, eqb, leb}
 use Rattle.management.specs.declared.Setting.TheVariants.{AlternateAui, AlternateTp, DisableAui, EnableAui, DisableTp, EnableTp, LinkTestOff, LinkTestOn}
@@ -45,25 +45,25 @@ abbrev pub table : List Row
 table = ones ++ eights
 
 -- whether a byte is one of the eight from `first` on
-abbrev pub ofEight : ℕ → ℕ → Bool
-ofEight first byte = leb first byte && leb byte (first + 7)
+abbrev pub of_eight : ℕ → ℕ → Bool
+of_eight first byte = leb first byte && leb byte (first + 7)
 
 abbrev pub found : List Row → ℕ → Command
 found [] byte = Unlisted
 found (one only command ∷ rows) byte = cond (eqb byte only) command (found rows byte)
-found (eight first command ∷ rows) byte = cond (ofEight first byte) (command (byte - first)) (found rows byte)
+found (eight first command ∷ rows) byte = cond (of_eight first byte) (command (byte - first)) (found rows byte)
 
 unfoldable pub row_of : ℕ → Command
 row_of byte = found eights byte
 
-unfoldable pub commandOf : ℕ → Command
-commandOf byte = found table byte
+unfoldable pub command_of : ℕ → Command
+command_of byte = found table byte
 
 abbrev pub counted : Command → ℕ
 counted (Set setting) = 1
 counted (Get query) = 1
 counted Unlisted = 0
 
-abbrev pub listedBelow : ℕ → ℕ
-listedBelow zero = 0
-listedBelow (suc n) = counted (commandOf n) + listedBelow n
+abbrev pub listed_below : ℕ → ℕ
+listed_below zero = 0
+listed_below (suc n) = counted (command_of n) + listed_below n

@@ -1,7 +1,7 @@
 // Management: which byte is which command, and the status bits that the Get commands report: B, S and L of AUI, the TP ports' bit rate errors, and M (MJLP).
 ghost use Rattle.std.specs.Prelude.{◌≡◌};
-ghost use Rattle.management.specs.Commands.{commandOf, row_of};
-ghost use Rattle.management.specs.Status.{clearStatus, marked, clearedBy};
+ghost use Rattle.management.specs.Commands.{command_of, row_of};
+ghost use Rattle.management.specs.Status.{clear_status, marked, cleared_by};
 
 #[derive(Drop)]
 pub enum Setting {
@@ -37,7 +37,7 @@ pub enum Command {
 
 // The command that a byte is.
 pub fn decode(byte: u8) -> Command
-    ensures { result ≡ commandOf byte }
+    ensures { result ≡ command_of byte }
 {
     match byte {
         0b0001_1111 => Command::Set(Setting::AlternateAui),
@@ -82,7 +82,7 @@ pub struct Status {
 impl Status {
     // Nothing reported: at power-up and after a reset.
     pub fn power_up() -> Status
-        ensures { result ≡ clearStatus }
+        ensures { result ≡ clear_status }
     {
         Status {
             rate: false,
@@ -108,7 +108,7 @@ impl Status {
 
     // The status after a Get.
     pub fn clear(mut self, query: Query) -> Status
-        ensures { result ≡ clearedBy query self }
+        ensures { result ≡ cleared_by query self }
     {
         match query {
             Query::Aui => self,

@@ -9,49 +9,49 @@ use Rattle.management.specs.declared.Command.{Command}
 use Rattle.management.specs.declared.Command.TheVariants.{Set, Get, Unlisted}
 use Rattle.management.specs.declared.Setting.{Setting}
 use Rattle.management.specs.declared.Query.{Query}
-use Rattle.management.specs.Commands.{commandOf}
+use Rattle.management.specs.Commands.{command_of}
 use Rattle.host.specs.declared.Host.{Host}
 use Rattle.host.specs.declared.Role.{Role}
 use Rattle.host.specs.declared.Role.TheVariants.{Plain, Cleared, Commands, Enables, Address}
 use Rattle.attributes.specs.declared.Nine.{Nine}
 use Rattle.chip.specs.declared.Core.{Core}
-use Rattle.chip.specs.Chip.{withChanges, withEnables}
-use Rattle.changes.specs.Changes.{keptBits}
-use Rattle.access.specs.Access.{selectedBy, read_by, obeyed, written_by, read_of, dReadOf, dWriteOf}
-use Rattle.access.proofs.Cases.{read-cases, write-cases}
+use Rattle.chip.specs.Chip.{with_changes, with_enables}
+use Rattle.changes.specs.Changes.{kept_bits}
+use Rattle.access.specs.Access.{selected_by, read_by_lem, obeyed, written_by, read_of, d_read_of, d_write_of}
+use Rattle.access.proofs.Cases.{read_cases, write_cases}
 use Rattle.himib.specs.Runs.{accepted}
-use Rattle.pass.specs.Pass.{isChange}
+use Rattle.pass.specs.Pass.{is_change}
 
 module _ (P : Core → Type 0) (c : Core) (b : ℕ) (still : P c) (sets : (g : Bool) (s : Setting) → P (obeyed g (Set s) c))
-    (gets : (g : Bool) (q : Query) → P (obeyed g (Get q) c)) (enables : (r : ℕ) → P (withEnables c (set c.enables r (keptBits r b)))) where
-  after-command : (g : Bool) (k : Command) → P (obeyed g k c)
+    (gets : (g : Bool) (q : Query) → P (obeyed g (Get q) c)) (enables : (r : ℕ) → P (with_enables c (set c.enables r (kept_bits r b)))) where
+  after_command : (g : Bool) (k : Command) → P (obeyed g k c)
   unfolding obeyed
-  after-command g (Set s) = sets g s
-  after-command g (Get q) = gets g q
-  after-command g Unlisted = still
+  after_command g (Set s) = sets g s
+  after_command g (Get q) = gets g q
+  after_command g Unlisted = still
 
-  after-written : (role : Role) → P (written_by role b c).core
+  after_written : (role : Role) → P (written_by role b c).core
   unfolding written_by
-  after-written Plain = still
-  after-written (Cleared r) = still
-  after-written (Commands g) = after-command g (commandOf b)
-  after-written (Enables r) = enables r
-  after-written (Address i) = still
+  after_written Plain = still
+  after_written (Cleared r) = still
+  after_written (Commands g) = after_command g (command_of b)
+  after_written (Enables r) = enables r
+  after_written (Address i) = still
 
-  pub after_write : (h : Host) → P (dWriteOf c h b).core
-  after_write h = write-cases (λ t. P t.core) c h (λ k. still) b (after-written (selectedBy h).role)
+  pub after_write : (h : Host) → P (d_write_of c h b).core
+  after_write h = write_cases (λ t. P t.core) c h (λ k. still) b (after_written (selected_by h).role)
 
 -- the core after a read of a register by its role, and whether that was a read of change register R
-module _ (r : ℕ) (P : Core → Bool → Type 0) (c : Core) (still : P c false) (clears : (k : ℕ) → P (withChanges c (set c.changes k 0)) (eqb k r)) where
-  after-seen : (role : Role) → P (read_by role c) (isChange r role)
-  unfolding read_by
-  after-seen Plain = still
-  after-seen (Cleared k) = clears k
-  after-seen (Commands g) = still
-  after-seen (Enables k) = still
-  after-seen (Address i) = still
+module _ (r : ℕ) (P : Core → Bool → Type 0) (c : Core) (still : P c false) (clears : (k : ℕ) → P (with_changes c (set c.changes k 0)) (eqb k r)) where
+  after_seen : (role : Role) → P (read_by_lem role c) (is_change r role)
+  unfolding read_by_lem
+  after_seen Plain = still
+  after_seen (Cleared k) = clears k
+  after_seen (Commands g) = still
+  after_seen (Enables k) = still
+  after_seen (Address i) = still
 
-  pub after_read : (nine : Nine) (h : Host) → P (dReadOf c nine h).core (accepted (dReadOf c nine h).answer && isChange r (selectedBy h).role)
+  pub after_read : (nine : Nine) (h : Host) → P (d_read_of c nine h).core (accepted (d_read_of c nine h).answer && is_change r (selected_by h).role)
   unfolding read_of accepted
   after_read nine h =
-      read-cases (λ t. P t.core (accepted t.answer && isChange r (selectedBy h).role)) c h (λ k. still) nine (after-seen (selectedBy h).role)
+      read_cases (λ t. P t.core (accepted t.answer && is_change r (selected_by h).role)) c h (λ k. still) nine (after_seen (selected_by h).role)

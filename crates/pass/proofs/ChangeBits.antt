@@ -1,10 +1,10 @@
 -- Demand 3 for the change bits: after any list of records from power-up a change bit is one exactly if its event came after the last accepted read of its
 -- register or reset. Assumes nothing.
---   set-read-set, each-register == both sides computed on lists of records
---   events-at         == the bits that `eventsOf` sets are those of the event, register by register
---   step-bit          == one record clears a bit, or leaves it and adds its event
---   bits-after        == the same along a list of records, from any bits at all
---   change-bits-by-past == demand 3
+--   set_read_set, each_register == both sides computed on lists of records
+--   events_at         == the bits that `events_of` sets are those of the event, register by register
+--   step_bit          == one record clears a bit, or leaves it and adds its event
+--   bits_after        == the same along a list of records, from any bits at all
+--   change_bits_by_past == demand 3
 use Prim.Native.Nat.{ℕ, zero, suc, ◌+◌, ◌*◌, ◌/◌, ◌%◌, ◌<◌}
 use mathlib.Core.Path.{◌≡◌, refl, sym, ap, ◌∙◌}
 use mathlib.Core.Bool.{Bool, true, false, cond, not, ◌&&◌, ◌||◌, and-true, and-false, or-false}
@@ -15,56 +15,56 @@ use lib.Dec.{eqb, eqb-suc-suc, lit<}
 use lib.ListN.{length, get_or, set, replicate, length-set, get_or-replicate}
 use lib.Bits.{bit_or, bit_xor, differ, xor_step}
 use Rattle.ports.specs.Sets.{aui, has}
-use Rattle.ports.proofs.Sets.{has-none, has-or, has-mod, has-power}
-use Rattle.ports.proofs.Each.{each-length, each_at}
+use Rattle.ports.proofs.Sets.{has_none, has_or, has_mod, has_power}
+use Rattle.ports.proofs.Each.{each_length, each_at}
 use Rattle.record.specs.declared.Access.{Access}
 use Rattle.record.specs.declared.Access.TheVariants.{WriteC, WriteD, ReadC, ReadD}
 use Rattle.record.specs.declared.Asked.{Asked}
 use Rattle.record.specs.declared.Asked.TheVariants as ask
 use Rattle.record.specs.declared.Burst.{Burst}
-use Rattle.record.specs.Refusals.{recordOf}
-use Rattle.record.specs.Accepted.{kindNumber}
-use Rattle.record.specs.Records.{noAddress, burstRecord, pulseRecord, cWriteRecord, dReadRecord, resetRecord}
-use Rattle.burst.specs.Marks.{marksOf}
+use Rattle.record.specs.Refusals.{record_of}
+use Rattle.record.specs.Accepted.{kind_number}
+use Rattle.record.specs.Records.{no_address, burst_record, pulse_record, c_write_record, d_read_record, reset_record}
+use Rattle.burst.specs.Marks.{marks_of}
 use Rattle.repeater.specs.declared.Repeater.{Repeater}
 use Rattle.repeater.specs.declared.Bursted.{Bursted}
-use Rattle.repeater.specs.Repeater.{quieted, set_to, gotOf, followed, burstOf, partitionedOf, linkedOf}
+use Rattle.repeater.specs.Repeater.{quieted, set_to, got_of, followed, burst_of, partitioned_of, linked_of}
 use Rattle.host.specs.declared.Host.{Host}
 use Rattle.answer.specs.declared.Answer.{Answer}
-use Rattle.answer.specs.Answer.{outputsOf}
+use Rattle.answer.specs.Answer.{outputs_of}
 use Rattle.attributes.specs.declared.Nine.{Nine}
 use Rattle.attributes.specs.declared.Due.{Due}
-use Rattle.attributes.specs.Nine.{addressChanges, counterOf, Proper}
-use Rattle.attributes.specs.Credits.{dueOf, creditedAll}
-use Rattle.attributes.proofs.NineLaws.{change-seen}
-use Rattle.changes.specs.Changes.{bit7, eventsOf, noted}
+use Rattle.attributes.specs.Nine.{address_changes, counter_of, Proper}
+use Rattle.attributes.specs.Credits.{due_of, credited_all}
+use Rattle.attributes.proofs.NineLaws.{change_seen}
+use Rattle.changes.specs.Changes.{bit7, events_of, noted}
 use Rattle.chip.specs.declared.Core.{Core}
 use Rattle.chip.specs.declared.Chip.{Chip}
-use Rattle.chip.specs.Chip.{moved, withChanges}
+use Rattle.chip.specs.Chip.{moved, with_changes}
 use Rattle.access.specs.declared.Acted.{Acted}
-use Rattle.access.specs.Access.{cReadOf, obeyed, selectedBy, served}
+use Rattle.access.specs.Access.{c_read_of, obeyed, selected_by, served}
 use Rattle.himib.specs.declared.Stepped.{Stepped}
-use Rattle.himib.specs.Bursts.{activityOf, metBy, burstCore, notedOn, burstOn}
-use Rattle.himib.specs.Step.{addressedAt, taken, step_of}
-use Rattle.himib.specs.Runs.{Point, Happening, happening, start, Given, accepted, ifBurst, historyOf, run_of, allAt}
-use Rattle.himib.proofs.StepLaws.{burst-consistent, counter-addressed}
-use Rattle.himib.proofs.Runs.{all-given, found, foundAfter, found-once, found-after-once}
+use Rattle.himib.specs.Bursts.{activity_of, met_by, burst_core, noted_on, burst_on}
+use Rattle.himib.specs.Step.{addressed_at, taken, step_of}
+use Rattle.himib.specs.Runs.{Point, Happening, happening, start, Given, accepted, if_burst, history_of, run_of, all_at}
+use Rattle.himib.proofs.StepLaws.{burst_consistent, counter_addressed}
+use Rattle.himib.proofs.Runs.{all_given, found, found_after, found_once, found_after_once}
 use Rattle.pass.specs.Judged.{happens, history, run}
-use Rattle.pass.specs.Pass.{changeBit, differs, changes, isChange, clears, noneOf, cameAfter, ChangeBitsByPast}
+use Rattle.pass.specs.Pass.{change_bit, differs, changes, is_change, clears, none_of, came_after, ChangeBitsByPast}
 use Rattle.pass.specs.Examples.{up}
-use Rattle.pass.proofs.Computing.{step-computes}
-use Rattle.record.proofs.KindLaws.{quiet-is-no}
+use Rattle.pass.proofs.Computing.{step_computes}
+use Rattle.record.proofs.KindLaws.{quiet_is_no}
 use Rattle.pass.proofs.Accesses.{after_write, after_read}
-use Rattle.pass.proofs.Credited.{Fit, fit-after, fit-start}
+use Rattle.pass.proofs.Credited.{Fit, fit_after, fit_start}
 
 -- AT ONE VALUE
 
-given-up : Given (allAt 0)
-given-up = all-given 0 (lit< tt)
+given_up : Given (all_at 0)
+given_up = all_given 0 (lit< tt)
 
 -- bit j of register R, and whether its event came after the last clearing record
 abbrev told : ℕ → ℕ → Point → List Happening → List Bool
-told r j p hs = changeBit r j p ∷ cameAfter (changes r j) (clears r) hs ∷ []
+told r j p hs = change_bit r j p ∷ came_after (changes r j) (clears r) hs ∷ []
 
 abbrev yes : List Bool
 yes = true ∷ true ∷ []
@@ -74,34 +74,34 @@ no = false ∷ false ∷ []
 
 -- AUI is partitioned by a long collision, and connected again
 abbrev cut : List (List ℕ)
-cut = burstRecord 0b100000000 0b00100 2000 0 0 100 1025 noAddress ∷ []
+cut = burst_record 0b100000000 0b00100 2000 0 0 100 1025 no_address ∷ []
 
 abbrev joined : List (List ℕ)
-joined = burstRecord 0b100000000 0 513 0 0 0 0 noAddress ∷ []
+joined = burst_record 0b100000000 0 513 0 0 0 0 no_address ∷ []
 
 -- register R of P 1 is selected and read; P 1 has no R 5, so that this read is turned away
 abbrev look : ℕ → List (List ℕ)
-look r = cWriteRecord 1 ∷ cWriteRecord (224 + r) ∷ dReadRecord ∷ []
+look r = c_write_record 1 ∷ c_write_record (224 + r) ∷ d_read_record ∷ []
 
 -- TP0 and TP1 are partitioned so
 abbrev split : List (List ℕ)
-split = replicate 4 (pulseRecord 0b11) ++ (burstRecord 0b11 0 2000 0 0 100 1025 noAddress ∷ [])
+split = replicate 4 (pulse_record 0b11) ++ (burst_record 0b11 0 2000 0 0 100 1025 no_address ∷ [])
 
 -- TP0, whose link has come up, sends a frame from the address a, with loopback missing and SQE Test seen
 abbrev frame : ℕ → List (List ℕ)
-frame a = replicate 4 (pulseRecord 0b1) ++ (burstRecord 0b1 0b11000 1000 64 0 0 0 (a ∷ replicate 5 0) ∷ [])
+frame a = replicate 4 (pulse_record 0b1) ++ (burst_record 0b1 0b11000 1000 64 0 0 0 (a ∷ replicate 5 0) ∷ [])
 
 -- AUI sends one
 abbrev greeting : List (List ℕ)
-greeting = burstRecord 0b100000000 0 1000 64 0 0 0 (1 ∷ replicate 5 0) ∷ []
+greeting = burst_record 0b100000000 0 1000 64 0 0 0 (1 ∷ replicate 5 0) ∷ []
 
 -- after that collision: nothing, a read, a read and the other change, reads of other registers, and a reset
 abbrev endings : List (List (List ℕ))
-endings = [] ∷ look 1 ∷ (look 1 ++ joined) ∷ look 0 ∷ look 5 ∷ (resetRecord ∷ []) ∷ []
+endings = [] ∷ look 1 ∷ (look 1 ++ joined) ∷ look 0 ∷ look 5 ∷ (reset_record ∷ []) ∷ []
 
-set-read-set : foundAfter happens (told 1 7) up cut endings ≡ yes ∷ no ∷ yes ∷ yes ∷ yes ∷ no ∷ []
-unfolding step-computes run_of historyOf happening accepted ifBurst changes noneOf cameAfter
-set-read-set = found-after-once happens (told 1 7) up cut endings refl
+set_read_set : found_after happens (told 1 7) up cut endings ≡ yes ∷ no ∷ yes ∷ yes ∷ yes ∷ no ∷ []
+unfolding step_computes run_of history_of happening accepted if_burst changes none_of came_after
+set_read_set = found_after_once happens (told 1 7) up cut endings refl
 
 -- TP0's and TP1's link, loopback, SQE Test and TP0's address
 abbrev five : Point → List Happening → List (List Bool)
@@ -111,37 +111,37 @@ five p hs = told 2 0 p hs ∷ told 2 1 p hs ∷ told 3 7 p hs ∷ told 4 7 p hs 
 abbrev again : List (List (List ℕ))
 again = [] ∷ (look 6 ++ frame 1) ∷ []
 
-each-register : (found happens (told 0 0) up (split ++ look 5) ≡ yes)
+each_register : (found happens (told 0 0) up (split ++ look 5) ≡ yes)
     × (found happens (told 1 7) up cut ≡ yes)
-    × (foundAfter happens five up (frame 1) again ≡ (yes ∷ no ∷ yes ∷ yes ∷ yes ∷ []) ∷ (yes ∷ no ∷ yes ∷ yes ∷ no ∷ []) ∷ [])
+    × (found_after happens five up (frame 1) again ≡ (yes ∷ no ∷ yes ∷ yes ∷ yes ∷ []) ∷ (yes ∷ no ∷ yes ∷ yes ∷ no ∷ []) ∷ [])
     × (found happens (told 6 0) up (frame 0) ≡ no)
     × (found happens (told 7 7) up greeting ≡ yes)
-unfolding step-computes run_of historyOf happening accepted ifBurst changes noneOf cameAfter
-each-register = (
-  found-once happens (told 0 0) up (split ++ look 5) refl,
-  found-once happens (told 1 7) up cut refl,
-  found-after-once happens five up (frame 1) again refl,
-  found-once happens (told 6 0) up (frame 0) refl,
-  found-once happens (told 7 7) up greeting refl,
+unfolding step_computes run_of history_of happening accepted if_burst changes none_of came_after
+each_register = (
+  found_once happens (told 0 0) up (split ++ look 5) refl,
+  found_once happens (told 1 7) up cut refl,
+  found_after_once happens five up (frame 1) again refl,
+  found_once happens (told 6 0) up (frame 0) refl,
+  found_once happens (told 7 7) up greeting refl,
 )
 
 -- SETS THAT DIFFER
 
-differ-low : (a b : ℕ) → a < 2 → b < 2 → differ a b < 2
-differ-low zero b p q = q
-differ-low (suc zero) zero p q = omega arith
-differ-low (suc zero) (suc zero) p q = omega arith
-differ-low (suc zero) (suc (suc b)) p q = absurd (omega arith)
-differ-low (suc (suc a)) b p q = absurd (omega arith)
+differ_low : (a b : ℕ) → a < 2 → b < 2 → differ a b < 2
+differ_low zero b p q = q
+differ_low (suc zero) zero p q = omega arith
+differ_low (suc zero) (suc zero) p q = omega arith
+differ_low (suc zero) (suc (suc b)) p q = absurd (omega arith)
+differ_low (suc (suc a)) b p q = absurd (omega arith)
 
-differ-digit : (a b : ℕ) → a < 2 → b < 2 → eqb (differ a b) 1 ≡ differs (eqb a 1) (eqb b 1)
-differ-digit zero zero p q = refl
-differ-digit zero (suc zero) p q = refl
-differ-digit zero (suc (suc b)) p q = absurd (omega arith)
-differ-digit (suc zero) zero p q = refl
-differ-digit (suc zero) (suc zero) p q = refl
-differ-digit (suc zero) (suc (suc b)) p q = absurd (omega arith)
-differ-digit (suc (suc a)) b p q = absurd (omega arith)
+differ_digit : (a b : ℕ) → a < 2 → b < 2 → eqb (differ a b) 1 ≡ differs (eqb a 1) (eqb b 1)
+differ_digit zero zero p q = refl
+differ_digit zero (suc zero) p q = refl
+differ_digit zero (suc (suc b)) p q = absurd (omega arith)
+differ_digit (suc zero) zero p q = refl
+differ_digit (suc zero) (suc zero) p q = refl
+differ_digit (suc zero) (suc (suc b)) p q = absurd (omega arith)
+differ_digit (suc (suc a)) b p q = absurd (omega arith)
 
 last : (x d : ℕ) → d < 2 → (x * 2 + d) % 2 ≡ d
 last x d h = omega arith
@@ -149,22 +149,22 @@ last x d h = omega arith
 rest : (x d : ℕ) → d < 2 → (x * 2 + d) / 2 ≡ x
 rest x d h = omega arith
 
-pub has-xor : (a b i : ℕ) → has (bit_xor a b) i ≡ differs (has a i) (has b i)
+pub has_xor : (a b i : ℕ) → has (bit_xor a b) i ≡ differs (has a i) (has b i)
 unfolding has
-has-xor a b zero =
+has_xor a b zero =
     let x = bit_xor (a / 2) (b / 2) in
-    let d = differ-low (a % 2) (b % 2) (omega arith) (omega arith) in
-    rw (xor_step a b, last x (differ (a % 2) (b % 2)) d) (differ-digit (a % 2) (b % 2) (omega arith) (omega arith))
-has-xor a b (suc i) =
+    let d = differ_low (a % 2) (b % 2) (omega arith) (omega arith) in
+    rw (xor_step a b, last x (differ (a % 2) (b % 2)) d) (differ_digit (a % 2) (b % 2) (omega arith) (omega arith))
+has_xor a b (suc i) =
     let x = bit_xor (a / 2) (b / 2) in
-    let d = differ-low (a % 2) (b % 2) (omega arith) (omega arith) in
-    ap (λ (n : ℕ). has n i) (ap (λ (n : ℕ). n / 2) (xor_step a b) ∙ rest x (differ (a % 2) (b % 2)) d) ∙ has-xor (a / 2) (b / 2) i
+    let d = differ_low (a % 2) (b % 2) (omega arith) (omega arith) in
+    ap (λ (n : ℕ). has n i) (ap (λ (n : ℕ). n / 2) (xor_step a b) ∙ rest x (differ (a % 2) (b % 2)) d) ∙ has_xor (a / 2) (b / 2) i
 
 -- THE BITS OF ONE RECORD'S EVENTS
 
 -- bit j of register R, of the ports whose partition changed, those whose link did, a loopback error, an SQE Test, and the ports whose address changed
-unfoldable pub eventBit : ℕ → ℕ → (ℕ → Bool) → (ℕ → Bool) → Bool → Bool → (ℕ → Bool) → Bool
-eventBit r j part link loopback sqe address =
+unfoldable pub event_bit : ℕ → ℕ → (ℕ → Bool) → (ℕ → Bool) → Bool → Bool → (ℕ → Bool) → Bool
+event_bit r j part link loopback sqe address =
     cond (eqb r 0) (part j)
     (cond (eqb r 1) (eqb j 7 && part aui)
     (cond (eqb r 2) (link j)
@@ -174,29 +174,29 @@ eventBit r j part link loopback sqe address =
     (cond (eqb r 7) (eqb j 7 && address aui)
     false))))))
 
-pub bit7-at : (b : Bool) (j : ℕ) → has (bit7 b) j ≡ (eqb j 7 && b)
-bit7-at true j = has-power 7 j ∙ sym (and-true (eqb j 7))
-bit7-at false j = has-none j ∙ sym (and-false (eqb j 7))
+pub bit7_at : (b : Bool) (j : ℕ) → has (bit7 b) j ≡ (eqb j 7 && b)
+bit7_at true j = has_power 7 j ∙ sym (and-true (eqb j 7))
+bit7_at false j = has_none j ∙ sym (and-false (eqb j 7))
 
-events-at : (part link : ℕ) (loopback sqe : Bool) (address r j : ℕ) → r < 8 → j < 8
-    → has (get_or (eventsOf part link loopback sqe address) r 0) j ≡ eventBit r j (has part) (has link) loopback sqe (has address)
-unfolding eventsOf eventBit
-events-at part link loopback sqe address zero j h l = has-mod 8 part j l
-events-at part link loopback sqe address (suc zero) j h l = bit7-at (has part aui) j
-events-at part link loopback sqe address (suc (suc zero)) j h l = has-mod 8 link j l
-events-at part link loopback sqe address (suc (suc (suc zero))) j h l = bit7-at loopback j
-events-at part link loopback sqe address (suc (suc (suc (suc zero)))) j h l = bit7-at sqe j
-events-at part link loopback sqe address (suc (suc (suc (suc (suc zero))))) j h l = has-none j
-events-at part link loopback sqe address (suc (suc (suc (suc (suc (suc zero)))))) j h l = has-mod 8 address j l
-events-at part link loopback sqe address (suc (suc (suc (suc (suc (suc (suc zero))))))) j h l = bit7-at (has address aui) j
-events-at part link loopback sqe address (suc (suc (suc (suc (suc (suc (suc (suc r)))))))) j h l = absurd (omega arith)
+events_at : (part link : ℕ) (loopback sqe : Bool) (address r j : ℕ) → r < 8 → j < 8
+    → has (get_or (events_of part link loopback sqe address) r 0) j ≡ event_bit r j (has part) (has link) loopback sqe (has address)
+unfolding events_of event_bit
+events_at part link loopback sqe address zero j h l = has_mod 8 part j l
+events_at part link loopback sqe address (suc zero) j h l = bit7_at (has part aui) j
+events_at part link loopback sqe address (suc (suc zero)) j h l = has_mod 8 link j l
+events_at part link loopback sqe address (suc (suc (suc zero))) j h l = bit7_at loopback j
+events_at part link loopback sqe address (suc (suc (suc (suc zero)))) j h l = bit7_at sqe j
+events_at part link loopback sqe address (suc (suc (suc (suc (suc zero))))) j h l = has_none j
+events_at part link loopback sqe address (suc (suc (suc (suc (suc (suc zero)))))) j h l = has_mod 8 address j l
+events_at part link loopback sqe address (suc (suc (suc (suc (suc (suc (suc zero))))))) j h l = bit7_at (has address aui) j
+events_at part link loopback sqe address (suc (suc (suc (suc (suc (suc (suc (suc r)))))))) j h l = absurd (omega arith)
 
 -- two functions that are the same for the nine ports
 abbrev pub Same : (ℕ → Bool) → (ℕ → Bool) → Type 0
 Same f g = (i : ℕ) → i < 9 → f i ≡ g i
 
-pub same_bit : (r j : ℕ) (p p' k k' a a' : ℕ → Bool) (l s : Bool) → j < 8 → Same p p' → Same k k' → Same a a' → eventBit r j p k l s a ≡ eventBit r j p' k' l s a'
-unfolding eventBit
+pub same_bit : (r j : ℕ) (p p' k k' a a' : ℕ → Bool) (l s : Bool) → j < 8 → Same p p' → Same k k' → Same a a' → event_bit r j p k l s a ≡ event_bit r j p' k' l s a'
+unfolding event_bit
 same_bit r j p p' k k' a a' l s h u v w =
     rw (u j (omega arith), u aui (omega arith), v j (omega arith), w j (omega arith), w aui (omega arith))
 
@@ -204,13 +204,13 @@ abbrev pub nobody : ℕ → Bool
 nobody i = false
 
 -- nothing happened
-no-choice : (b : Bool) → cond b false false ≡ false
-no-choice true = refl
-no-choice false = refl
+no_choice : (b : Bool) → cond b false false ≡ false
+no_choice true = refl
+no_choice false = refl
 
-pub no-bit : (r j : ℕ) → eventBit r j nobody nobody false false nobody ≡ false
-unfolding eventBit
-no-bit r j = simp (and-false, no-choice)
+pub no_bit : (r j : ℕ) → event_bit r j nobody nobody false false nobody ≡ false
+unfolding event_bit
+no_bit r j = simp (and-false, no_choice)
 
 -- a register that a read clears, and any other
 zeroed : (cs : List ℕ) (k r : ℕ) → get_or (set cs k 0) r 0 ≡ cond (eqb k r) 0 (get_or cs r 0)
@@ -228,41 +228,41 @@ zeroed (x ∷ cs) (suc k) (suc r) = rw (eqb-suc-suc k r) (zeroed cs k r)
 abbrev pub bit_of : ℕ → ℕ → Core → Bool
 bit_of r j c = has (get_or c.changes r 0) j
 
-noted-at : (es cs : List ℕ) (r j : ℕ) → r < length cs → has (get_or (noted es cs) r 0) j ≡ (has (get_or cs r 0) j || has (get_or es r 0) j)
+noted_at : (es cs : List ℕ) (r j : ℕ) → r < length cs → has (get_or (noted es cs) r 0) j ≡ (has (get_or cs r 0) j || has (get_or es r 0) j)
 unfolding noted
-noted-at es cs r j h =
-    ap (λ (n : ℕ). has n j) (each_at (λ r c. bit_or c (get_or es r 0)) cs r 0 0 h) ∙ has-or (get_or cs r 0) (get_or es r 0) j
+noted_at es cs r j h =
+    ap (λ (n : ℕ). has n j) (each_at (λ r c. bit_or c (get_or es r 0)) cs r 0 0 h) ∙ has_or (get_or cs r 0) (get_or es r 0) j
 
 -- the ports whose partition, and whose link, is another in x than in y
-abbrev pub partitionChanges : Repeater → Repeater → ℕ
-partitionChanges x y = bit_xor (partitionedOf x) (partitionedOf y)
+abbrev pub partition_changes : Repeater → Repeater → ℕ
+partition_changes x y = bit_xor (partitioned_of x) (partitioned_of y)
 
-abbrev pub linkChanges : Repeater → Repeater → ℕ
-linkChanges x y = bit_xor (linkedOf x) (linkedOf y)
+abbrev pub link_changes : Repeater → Repeater → ℕ
+link_changes x y = bit_xor (linked_of x) (linked_of y)
 
 -- what moves the repeater adds its events to the bits
-pub moved-bit : (c : Core) (q : Repeater) (loopback sqe : Bool) (address r j : ℕ) → length c.changes ≡ 8 → r < 8 → j < 8
+pub moved_bit : (c : Core) (q : Repeater) (loopback sqe : Bool) (address r j : ℕ) → length c.changes ≡ 8 → r < 8 → j < 8
     → bit_of r j (moved c q loopback sqe address)
-    ≡ (bit_of r j c || eventBit r j (has (partitionChanges c.repeater q)) (has (linkChanges c.repeater q)) loopback sqe (has address))
+    ≡ (bit_of r j c || event_bit r j (has (partition_changes c.repeater q)) (has (link_changes c.repeater q)) loopback sqe (has address))
 unfolding moved
-moved-bit c q loopback sqe address r j n h l =
-    let part = partitionChanges c.repeater q in
-    let link = linkChanges c.repeater q in
-    noted-at (eventsOf part link loopback sqe address) c.changes r j (omega arith)
-    ∙ ap (λ (b : Bool). bit_of r j c || b) (events-at part link loopback sqe address r j h l)
+moved_bit c q loopback sqe address r j n h l =
+    let part = partition_changes c.repeater q in
+    let link = link_changes c.repeater q in
+    noted_at (events_of part link loopback sqe address) c.changes r j (omega arith)
+    ∙ ap (λ (b : Bool). bit_of r j c || b) (events_at part link loopback sqe address r j h l)
 
 -- SOURCE ADDRESS CHANGES
 
 -- the counter of port i moved
-abbrev countedIn : Nine → Nine → ℕ → Bool
-countedIn nine next i = not (eqb (counterOf nine i addressChanges) (counterOf next i addressChanges))
+abbrev counted_in : Nine → Nine → ℕ → Bool
+counted_in nine next i = not (eqb (counter_of nine i address_changes) (counter_of next i address_changes))
 
-uncounted : (nine : Nine) (i : ℕ) → countedIn nine nine i ≡ false
-uncounted nine i = rw (eq-eqb (counterOf nine i addressChanges) (counterOf nine i addressChanges) refl)
+uncounted : (nine : Nine) (i : ℕ) → counted_in nine nine i ≡ false
+uncounted nine i = rw (eq-eqb (counter_of nine i address_changes) (counter_of nine i address_changes) refl)
 
 -- a completed address write moves none
-written-uncounted : (port : ℕ) (source : List ℕ) (nine : Nine) (i : ℕ) → countedIn nine (addressedAt port source nine) i ≡ false
-written-uncounted port source nine i = rw (counter-addressed port source nine i addressChanges) (uncounted nine i)
+written_uncounted : (port : ℕ) (source : List ℕ) (nine : Nine) (i : ℕ) → counted_in nine (addressed_at port source nine) i ≡ false
+written_uncounted port source nine i = rw (counter_addressed port source nine i address_changes) (uncounted nine i)
 
 -- WHAT STANDS AT EVERY POINT OF A RUN
 
@@ -274,34 +274,34 @@ record Firm (p : Point) : Type 0 where
 pub moved_length : (c : Core) (q : Repeater) (loopback sqe : Bool) (address : ℕ) → length (moved c q loopback sqe address).changes ≡ length c.changes
 unfolding moved noted
 moved_length c q loopback sqe address =
-    let events = eventsOf (partitionChanges c.repeater q) (linkChanges c.repeater q) loopback sqe address in
-    each-length (λ r m. bit_or m (get_or events r 0)) c.changes
+    let events = events_of (partition_changes c.repeater q) (link_changes c.repeater q) loopback sqe address in
+    each_length (λ r m. bit_or m (get_or events r 0)) c.changes
 
 module _ (source : List ℕ) (s : Chip) (host : Host) where
-  eight-served : (a : Access) → length s.core.changes ≡ 8 → length (served a s.core s.attributes host).core.changes ≡ 8
-  unfolding served cReadOf obeyed
-  eight-served (WriteC b) n = n
-  eight-served (WriteD b) n =
+  eight_served : (a : Access) → length s.core.changes ≡ 8 → length (served a s.core s.attributes host).core.changes ≡ 8
+  unfolding served c_read_of obeyed
+  eight_served (WriteC b) n = n
+  eight_served (WriteD b) n =
       after_write (λ d. length d.changes ≡ 8) s.core b n (λ g k. moved_length s.core _ _ _ _ ∙ n)
       (λ g q. moved_length s.core _ _ _ _ ∙ n)
       (λ k. n)
       host
-  eight-served ReadC n = n
-  eight-served ReadD n = after_read 0 (λ d b. length d.changes ≡ 8) s.core n (λ k. length-set s.core.changes k 0 ∙ n) s.attributes host
+  eight_served ReadC n = n
+  eight_served ReadD n = after_read 0 (λ d b. length d.changes ≡ 8) s.core n (λ k. length-set s.core.changes k 0 ∙ n) s.attributes host
 
-  eight-after : (a : Asked) → length s.core.changes ≡ 8 → length (taken a source s host).chip.core.changes ≡ 8
-  unfolding taken notedOn burstOn burstCore
-  eight-after (ask.Burst b) n = moved_length s.core _ _ _ _ ∙ n
-  eight-after (ask.Quiet q) n = moved_length s.core _ _ _ _ ∙ n
-  eight-after (ask.Access a) n = eight-served a n
-  eight-after ask.Reset n = refl
-  eight-after (ask.Refused k) n = n
+  eight_after : (a : Asked) → length s.core.changes ≡ 8 → length (taken a source s host).chip.core.changes ≡ 8
+  unfolding taken noted_on burst_on burst_core
+  eight_after (ask.Burst b) n = moved_length s.core _ _ _ _ ∙ n
+  eight_after (ask.Quiet q) n = moved_length s.core _ _ _ _ ∙ n
+  eight_after (ask.Access a) n = eight_served a n
+  eight_after ask.Reset n = refl
+  eight_after (ask.Refused k) n = n
 
-firm-after : (p : Point) (bs : List ℕ) → Firm p → Firm (happens p bs).after
+firm_after : (p : Point) (bs : List ℕ) → Firm p → Firm (happens p bs).after
 unfolding happening step_of
-firm-after p bs f = record {
-  eight = eight-after (recordOf bs).source p.chip p.host (recordOf bs).asked f.eight;
-  fit = fit-after p bs f.fit;
+firm_after p bs f = record {
+  eight = eight_after (record_of bs).source p.chip p.host (record_of bs).asked f.eight;
+  fit = fit_after p bs f.fit;
 }
 
 -- ONE RECORD
@@ -309,100 +309,100 @@ firm-after p bs f = record {
 -- the event of bit j of register R between two states, of the repeater x and y and of the attributes
 abbrev between : ℕ → ℕ → Bool → Bool → Repeater → Repeater → Nine → Nine → Bool
 between r j loopback sqe x y nine next =
-    eventBit r j (λ i. differs (has (partitionedOf x) i) (has (partitionedOf y) i)) (λ i. differs (has (linkedOf x) i) (has (linkedOf y) i))
-    loopback sqe (countedIn nine next)
+    event_bit r j (λ i. differs (has (partitioned_of x) i) (has (partitioned_of y) i)) (λ i. differs (has (linked_of x) i) (has (linked_of y) i))
+    loopback sqe (counted_in nine next)
 
-pub differs-self : (b : Bool) → differs b b ≡ false
-differs-self true = refl
-differs-self false = refl
+pub differs_self : (b : Bool) → differs b b ≡ false
+differs_self true = refl
+differs_self false = refl
 
 module _ (r j : ℕ) (h : r < 8) (l : j < 8) where
-  moved-step : (c : Core) → length c.changes ≡ 8 → (nine next : Nine) (q : Repeater) (loopback sqe : Bool) (address : ℕ)
-      → Same (has address) (countedIn nine next)
+  moved_step : (c : Core) → length c.changes ≡ 8 → (nine next : Nine) (q : Repeater) (loopback sqe : Bool) (address : ℕ)
+      → Same (has address) (counted_in nine next)
       → bit_of r j (moved c q loopback sqe address) ≡ (bit_of r j c || between r j loopback sqe c.repeater q nine next)
-  moved-step c n nine next q loopback sqe address a =
-      moved-bit c q loopback sqe address r j n h l
+  moved_step c n nine next q loopback sqe address a =
+      moved_bit c q loopback sqe address r j n h l
       ∙ ap (λ (b : Bool). bit_of r j c || b)
-      (same_bit r j _ _ _ _ _ _ loopback sqe l (λ i k. has-xor (partitionedOf c.repeater) (partitionedOf q) i)
-      (λ i k. has-xor (linkedOf c.repeater) (linkedOf q) i)
+      (same_bit r j _ _ _ _ _ _ loopback sqe l (λ i k. has_xor (partitioned_of c.repeater) (partitioned_of q) i)
+      (λ i k. has_xor (linked_of c.repeater) (linked_of q) i)
       a)
 
   module _ (source : List ℕ) (s : Chip) (host : Host) (n : length s.core.changes ≡ 8) (f : Proper s.attributes) where
     -- what clears the bit, and the events of a burst, by what is asked
-    abbrev clearsFor : Asked → Answer → Bool
-    clearsFor a v = eqb (kindNumber a) 8 || (eqb (kindNumber a) 7 && accepted v && isChange r (selectedBy host).role)
+    abbrev clears_for : Asked → Answer → Bool
+    clears_for a v = eqb (kind_number a) 8 || (eqb (kind_number a) 7 && accepted v && is_change r (selected_by host).role)
 
-    abbrev loopbackFor : Asked → Answer → Bool
-    loopbackFor a v = ifBurst false (λ b. b.loopback_missing && has (outputsOf v) aui) a
+    abbrev loopback_for : Asked → Answer → Bool
+    loopback_for a v = if_burst false (λ b. b.loopback_missing && has (outputs_of v) aui) a
 
-    abbrev sqeFor : Asked → Bool
-    sqeFor a = ifBurst false (λ b. b.sqe_test) a
+    abbrev sqe_for : Asked → Bool
+    sqe_for a = if_burst false (λ b. b.sqe_test) a
 
     abbrev Steps : Asked → Stepped → Type 0
     Steps a t =
         bit_of r j t.chip.core
-        ≡ cond (clearsFor a t.answer) false
+        ≡ cond (clears_for a t.answer) false
         (bit_of r j s.core
-        || between r j (loopbackFor a t.answer) (sqeFor a) s.core.repeater t.chip.core.repeater s.attributes t.chip.attributes)
+        || between r j (loopback_for a t.answer) (sqe_for a) s.core.repeater t.chip.core.repeater s.attributes t.chip.attributes)
 
-    burst-step : (b : Burst) → Steps (ask.Burst b) (taken (ask.Burst b) source s host)
-    unfolding taken notedOn burstOn burstCore burstOf followed marksOf activityOf moved ifBurst
-    burst-step b =
-        let t : Bursted = burstOf s.core.repeater (activityOf b) in
-        let due : Due = dueOf s.attributes (metBy s.core t) b source in
-        moved-step s.core n s.attributes (creditedAll due b source s.attributes) t.repeater t.marks.loopback t.marks.sqe due.changed
-        (change-seen due b source s.attributes f (burst-consistent s.core b s.attributes source))
+    burst_step : (b : Burst) → Steps (ask.Burst b) (taken (ask.Burst b) source s host)
+    unfolding taken noted_on burst_on burst_core burst_of followed marks_of activity_of moved if_burst
+    burst_step b =
+        let t : Bursted = burst_of s.core.repeater (activity_of b) in
+        let due : Due = due_of s.attributes (met_by s.core t) b source in
+        moved_step s.core n s.attributes (credited_all due b source s.attributes) t.repeater t.marks.loopback t.marks.sqe due.changed
+        (change_seen due b source s.attributes f (burst_consistent s.core b s.attributes source))
 
     -- any other record leaves no counter moved; d is the core after it, and b whether it clears
-    module _ (next : Nine) (none : (i : ℕ) → countedIn s.attributes next i ≡ false) where
+    module _ (next : Nine) (none : (i : ℕ) → counted_in s.attributes next i ≡ false) where
       abbrev Follows : Core → Bool → Type 0
       Follows d b = bit_of r j d ≡ cond b false (bit_of r j s.core || between r j false false s.core.repeater d.repeater s.attributes next)
 
       moves : (q : Repeater) → Follows (moved s.core q false false 0) false
       unfolding moved
-      moves q = moved-step s.core n s.attributes next q false false 0 (λ i k. has-none i ∙ sym (none i))
+      moves q = moved_step s.core n s.attributes next q false false 0 (λ i k. has_none i ∙ sym (none i))
 
-      no-event : between r j false false s.core.repeater s.core.repeater s.attributes next ≡ false
-      no-event =
-          same_bit r j _ nobody _ nobody _ nobody false false l (λ i k. differs-self (has (partitionedOf s.core.repeater) i))
-          (λ i k. differs-self (has (linkedOf s.core.repeater) i))
+      no_event : between r j false false s.core.repeater s.core.repeater s.attributes next ≡ false
+      no_event =
+          same_bit r j _ nobody _ nobody _ nobody false false l (λ i k. differs_self (has (partitioned_of s.core.repeater) i))
+          (λ i k. differs_self (has (linked_of s.core.repeater) i))
           (λ i k. none i)
-          ∙ no-bit r j
+          ∙ no_bit r j
 
       stays : Follows s.core false
-      stays = sym (ap (λ (b : Bool). bit_of r j s.core || b) no-event ∙ or-false (bit_of r j s.core))
+      stays = sym (ap (λ (b : Bool). bit_of r j s.core || b) no_event ∙ or-false (bit_of r j s.core))
 
-      clearing : (k : ℕ) → Follows (withChanges s.core (set s.core.changes k 0)) (eqb k r)
+      clearing : (k : ℕ) → Follows (with_changes s.core (set s.core.changes k 0)) (eqb k r)
       clearing k = go (eqb k r) refl
         where
-          go : (b : Bool) → eqb k r ≡ b → Follows (withChanges s.core (set s.core.changes k 0)) (eqb k r)
-          go true e = rw (zeroed s.core.changes k r, e) (has-none j)
+          go : (b : Bool) → eqb k r ≡ b → Follows (with_changes s.core (set s.core.changes k 0)) (eqb k r)
+          go true e = rw (zeroed s.core.changes k r, e) (has_none j)
           go false e = rw (zeroed s.core.changes k r, e) stays
 
-      accessed : (a : Access) → let t : Acted = served a s.core s.attributes host in Follows t.core (clearsFor (ask.Access a) t.answer)
-      unfolding served cReadOf obeyed moved
+      accessed : (a : Access) → let t : Acted = served a s.core s.attributes host in Follows t.core (clears_for (ask.Access a) t.answer)
+      unfolding served c_read_of obeyed moved
       accessed (WriteC b) = stays
       accessed (WriteD b) =
           after_write (λ d. Follows d false) s.core b stays (λ g k. moves (set_to k s.core.repeater))
-          (λ g q. moves (gotOf q s.core.repeater).repeater)
+          (λ g q. moves (got_of q s.core.repeater).repeater)
           (λ k. stays)
           host
       accessed ReadC = stays
       accessed ReadD = after_read r Follows s.core stays clearing s.attributes host
 
     step : (a : Asked) → Steps a (taken a source s host)
-    unfolding taken moved ifBurst
-    step (ask.Burst b) = burst-step b
+    unfolding taken moved if_burst
+    step (ask.Burst b) = burst_step b
     step (ask.Quiet q) =
-        rw (quiet-is-no 8 refl q, quiet-is-no 7 refl q) (moves s.attributes (uncounted s.attributes) (quieted q s.core.repeater))
-    step (ask.Access a) = accessed _ (written-uncounted _ _ s.attributes) a
-    step ask.Reset = rw (get_or-replicate {A = ℕ} 8 r 0 0 h) (has-none j)
+        rw (quiet_is_no 8 refl q, quiet_is_no 7 refl q) (moves s.attributes (uncounted s.attributes) (quieted q s.core.repeater))
+    step (ask.Access a) = accessed _ (written_uncounted _ _ s.attributes) a
+    step ask.Reset = rw (get_or-replicate {A = ℕ} 8 r 0 0 h) (has_none j)
     step (ask.Refused k) = stays s.attributes (uncounted s.attributes)
 
-  step-bit : (p : Point) (bs : List ℕ) → Firm p
-      → changeBit r j (happens p bs).after ≡ cond (clears r (happens p bs)) false (changeBit r j p || changes r j (happens p bs))
-  unfolding happening step_of changes eventBit
-  step-bit p bs f = step (recordOf bs).source p.chip p.host f.eight f.fit.attributes (recordOf bs).asked
+  step_bit : (p : Point) (bs : List ℕ) → Firm p
+      → change_bit r j (happens p bs).after ≡ cond (clears r (happens p bs)) false (change_bit r j p || changes r j (happens p bs))
+  unfolding happening step_of changes event_bit
+  step_bit p bs f = step (record_of bs).source p.chip p.host f.eight f.fit.attributes (record_of bs).asked
 
 -- ALL RECORDS
 
@@ -423,19 +423,19 @@ shuffled false false true false m = sym (or-false m)
 shuffled false false false n m = sym (or-false m)
 
 module _ (r j : ℕ) (h : r < 8) (l : j < 8) where
-  bits-after : (p : Point) (rs : List (List ℕ)) → Firm p
-      → changeBit r j (run p rs) ≡ (changeBit r j p && noneOf (clears r) (history p rs) || cameAfter (changes r j) (clears r) (history p rs))
-  unfolding run_of historyOf noneOf cameAfter
-  bits-after p [] f = sym (or-false (changeBit r j p && true) ∙ and-true (changeBit r j p))
-  bits-after p (bs ∷ rs) f =
+  bits_after : (p : Point) (rs : List (List ℕ)) → Firm p
+      → change_bit r j (run p rs) ≡ (change_bit r j p && none_of (clears r) (history p rs) || came_after (changes r j) (clears r) (history p rs))
+  unfolding run_of history_of none_of came_after
+  bits_after p [] f = sym (or-false (change_bit r j p && true) ∙ and-true (change_bit r j p))
+  bits_after p (bs ∷ rs) f =
       let t : Happening = happens p bs in
       let later : List Happening = history t.after rs in
-      bits-after t.after rs (firm-after p bs f)
-      ∙ rw (step-bit r j h l p bs f)
-      (shuffled (clears r t) (changeBit r j p) (changes r j t) (noneOf (clears r) later) (cameAfter (changes r j) (clears r) later))
+      bits_after t.after rs (firm_after p bs f)
+      ∙ rw (step_bit r j h l p bs f)
+      (shuffled (clears r t) (change_bit r j p) (changes r j t) (none_of (clears r) later) (came_after (changes r j) (clears r) later))
 
-pub change-bits-by-past : ChangeBitsByPast
-change-bits-by-past given g rs r j h l =
+pub change_bits_by_past : ChangeBitsByPast
+change_bits_by_past given g rs r j h l =
     let p : Point = start given in
-    let z : changeBit r j p ≡ false = rw (get_or-replicate {A = ℕ} 8 r 0 0 h) (has-none j) in
-    bits-after r j h l p rs (record { eight = refl; fit = fit-start given g }) ∙ rw z
+    let z : change_bit r j p ≡ false = rw (get_or-replicate {A = ℕ} 8 r 0 0 h) (has_none j) in
+    bits_after r j h l p rs (record { eight = refl; fit = fit_start given g }) ∙ rw z

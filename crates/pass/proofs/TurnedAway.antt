@@ -1,5 +1,5 @@
 -- Demand 1: what is turned away changes nothing; and any two outcomes that an equation allows are one. Assumes nothing.
---   host-left == on a run: what is not accepted leaves the host's record as it was
+--   host_left == on a run: what is not accepted leaves the host's record as it was
 use Prim.Native.Nat.{ℕ}
 use mathlib.Core.Path.{◌≡◌, refl, sym, subst, ◌∙◌}
 use mathlib.Core.Bool.{true, false, true≢false}
@@ -12,13 +12,13 @@ use Rattle.answer.specs.Answer.{number_of}
 use Rattle.chip.specs.declared.Chip.{Chip}
 use Rattle.himib.specs.declared.Stepped.{Stepped}
 use Rattle.himib.specs.Step.{turned, step_of}
-use Rattle.himib.proofs.Refused.{refused-untouched}
-use Rattle.himib.specs.Runs.{Point, happening, accepted, counterAt, run_of}
+use Rattle.himib.proofs.Refused.{refused_untouched}
+use Rattle.himib.specs.Runs.{Point, happening, accepted, counter_at, run_of}
 use Rattle.pass.specs.Judged.{happens, run}
 use Rattle.pass.specs.Pass.{TurnedAwayIsStill, OneOutcome}
-use Rattle.record.specs.Records.{burstRecord, noAddress, pulseRecord, plainRecord, cWriteRecord, dWriteRecord, dReadRecord}
+use Rattle.record.specs.Records.{burst_record, no_address, pulse_record, plain_record, c_write_record, d_write_record, d_read_record}
 use Rattle.pass.specs.Examples.{up}
-use Rattle.pass.proofs.Computing.{step-computes}
+use Rattle.pass.proofs.Computing.{step_computes}
 
 -- INSTANCE
 
@@ -27,35 +27,35 @@ use Rattle.pass.proofs.Computing.{step-computes}
 abbrev written : Point
 written =
     run up
-    (burstRecord 256 0 1000 64 0 0 0 noAddress ∷ cWriteRecord 0x10 ∷ cWriteRecord 0xee ∷ dWriteRecord 1 ∷ dWriteRecord 2 ∷ dWriteRecord 3 ∷ [])
+    (burst_record 256 0 1000 64 0 0 0 no_address ∷ c_write_record 0x10 ∷ c_write_record 0xee ∷ d_write_record 1 ∷ d_write_record 2 ∷ d_write_record 3 ∷ [])
 
 abbrev unlisted : Point
-unlisted = run written (cWriteRecord 0x03 ∷ [])
+unlisted = run written (c_write_record 0x03 ∷ [])
 
 abbrev setting : Point
-setting = run written (cWriteRecord 0x00 ∷ cWriteRecord 0xfe ∷ [])
+setting = run written (c_write_record 0x00 ∷ c_write_record 0xfe ∷ [])
 
-abbrev turnedFrom : Point → ℕ → Stepped
-turnedFrom p k = turned p.chip p.host k
+abbrev turned_from : Point → ℕ → Stepped
+turned_from p k = turned p.chip p.host k
 
 abbrev meets : Point → List ℕ → Stepped
 meets p bs = step_of p.chip p.host bs
 
-three-bytes : (written.host.place ≡ 3) × (counterAt 8 0 written ≡ 1)
-unfolding step-computes happening run_of
-three-bytes = (refl {a = 3}, refl {a = 1})
+three_bytes : (written.host.place ≡ 3) × (counter_at 8 0 written ≡ 1)
+unfolding step_computes happening run_of
+three_bytes = (refl {a = 3}, refl {a = 1})
 
 -- the bytes alone decide the first six, wherever they are met
 abbrev Six : Point → Type 0
-Six p = (meets p (replicate 31 0) ≡ turnedFrom p 9)
-    × (meets p (plainRecord 9 0 0) ≡ turnedFrom p 8)
-    × (meets p (pulseRecord 0x100) ≡ turnedFrom p 3)
-    × (meets p (burstRecord 1 0 511 64 0 0 0 noAddress) ≡ turnedFrom p 2)
-    × (meets p (burstRecord 0 0 1000 64 0 0 0 noAddress) ≡ turnedFrom p 1)
-    × (meets p (cWriteRecord 0x20) ≡ turnedFrom p 7)
+Six p = (meets p (replicate 31 0) ≡ turned_from p 9)
+    × (meets p (plain_record 9 0 0) ≡ turned_from p 8)
+    × (meets p (pulse_record 0x100) ≡ turned_from p 3)
+    × (meets p (burst_record 1 0 511 64 0 0 0 no_address) ≡ turned_from p 2)
+    × (meets p (burst_record 0 0 1000 64 0 0 0 no_address) ≡ turned_from p 1)
+    × (meets p (c_write_record 0x20) ≡ turned_from p 7)
 
 six : (p : Point) → Six p
-unfolding step-computes
+unfolding step_computes
 six p = (refl, refl, refl, refl, refl, refl)
 
 -- the host's record decides the others, on any chip: P 3 R 14 is selected, which is not listed, or P 0 R 30, which is S
@@ -66,17 +66,17 @@ abbrev selecting : Chip → ℕ → ℕ → Point
 selecting s page register = record { chip = s; host = record { page = page; register = register; bytes = copy; place = 0; writing = true } }
 
 abbrev Fifth : Point → Type 0
-Fifth p = meets p dReadRecord ≡ turnedFrom p 5
+Fifth p = meets p d_read_record ≡ turned_from p 5
 
 abbrev Others : Point → Type 0
-Others p = (meets p dReadRecord ≡ turnedFrom p 6) × (meets p (dWriteRecord 0) ≡ turnedFrom p 4)
+Others p = (meets p d_read_record ≡ turned_from p 6) × (meets p (d_write_record 0) ≡ turned_from p 4)
 
-by-selection : (s : Chip) → Fifth (selecting s 3 14) × Others (selecting s 0 30)
-unfolding step-computes
-by-selection s = (refl, (refl, refl))
+by_selection : (s : Chip) → Fifth (selecting s 3 14) × Others (selecting s 0 30)
+unfolding step_computes
+by_selection s = (refl, (refl, refl))
 
 selected : ((selecting unlisted.chip 3 14).host ≡ unlisted.host) × ((selecting setting.chip 0 30).host ≡ setting.host)
-unfolding step-computes happening run_of
+unfolding step_computes happening run_of
 selected = (refl, refl)
 
 abbrev beside : Point → Host → Point
@@ -85,25 +85,25 @@ beside p h = record { chip = p.chip; host = h }
 each_number : Six written × Fifth unlisted × Others setting
 each_number = (
   six written,
-  subst (λ (h : Host). Fifth (beside unlisted h)) selected.0 (by-selection unlisted.chip).0,
-  subst (λ (h : Host). Others (beside setting h)) selected.1 (by-selection setting.chip).1,
+  subst (λ (h : Host). Fifth (beside unlisted h)) selected.0 (by_selection unlisted.chip).0,
+  subst (λ (h : Host). Others (beside setting h)) selected.1 (by_selection setting.chip).1,
 )
 
 -- THE THEOREMS
 
-pub turned-away-is-still : TurnedAwayIsStill
-turned-away-is-still s h bs k e = let u = refused-untouched s h bs k e in (u.chip, u.host, u.outputs, u.value)
+pub turned_away_is_still : TurnedAwayIsStill
+turned_away_is_still s h bs k e = let u = refused_untouched s h bs k e in (u.chip, u.host, u.outputs, u.value)
 
-not-accepted : (a : Answer) → accepted a ≡ false → a ≡ Refused (number_of a)
+not_accepted : (a : Answer) → accepted a ≡ false → a ≡ Refused (number_of a)
 unfolding accepted
-not-accepted Done e = absurd (true≢false e)
-not-accepted (Sent w out) e = absurd (true≢false e)
-not-accepted (Value v) e = absurd (true≢false e)
-not-accepted (Refused k) e = refl
+not_accepted Done e = absurd (true≢false e)
+not_accepted (Sent w out) e = absurd (true≢false e)
+not_accepted (Value v) e = absurd (true≢false e)
+not_accepted (Refused k) e = refl
 
-pub host-left : (p : Point) (r : List ℕ) → accepted (happens p r).answer ≡ false → (happens p r).after.host ≡ p.host
+pub host_left : (p : Point) (r : List ℕ) → accepted (happens p r).answer ≡ false → (happens p r).after.host ≡ p.host
 unfolding happening
-host-left p r e = let a = (step_of p.chip p.host r).answer in (turned-away-is-still p.chip p.host r (number_of a) (not-accepted a e)).1
+host_left p r e = let a = (step_of p.chip p.host r).answer in (turned_away_is_still p.chip p.host r (number_of a) (not_accepted a e)).1
 
-pub one-outcome : OneOutcome
-one-outcome A defined one other p q = p ∙ sym q
+pub one_outcome : OneOutcome
+one_outcome A defined one other p q = p ∙ sym q

@@ -4,13 +4,13 @@
 --   history, run == its histories and runs, which are the chip's
 -- Assumes nothing.
 use Rattle.std.specs.Prelude.{ℕ, List}
-use Rattle.himib.specs.Runs.{Point, Happening, Model, happening, historyOf, run_of}
+use Rattle.himib.specs.Runs.{Point, Happening, Model, happening, history_of, run_of}
 
 abbrev pub happens : Model
 happens p r = happening p r
 
 abbrev pub history : Point → List (List ℕ) → List Happening
-history = historyOf happens
+history = history_of happens
 
 abbrev pub run : Point → List (List ℕ) → Point
 run = run_of happens

@@ -3,12 +3,12 @@ use mathlib.Core.Path.{◌≡◌, refl}
 use mathlib.Core.List.{map}
 use Rattle.past.specs.Sheet.{Row, told, partitions, crowds}
 use Rattle.past.proofs.Computing.{telling}
-use Rattle.past.proofs.Sheet.{partitions-told}
+use Rattle.past.proofs.Sheet.{partitions_told}
 
 -- one collision alone
 once : map told partitions ≡ map (λ (w : Row). w.wanted) partitions
-once = partitions-told
+once = partitions_told
 
-pub crowds-told : map told crowds ≡ map (λ (w : Row). w.wanted) crowds
+pub crowds_told : map told crowds ≡ map (λ (w : Row). w.wanted) crowds
 unfolding telling
-crowds-told = refl
+crowds_told = refl

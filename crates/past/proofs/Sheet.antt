@@ -1,51 +1,51 @@
 -- What the past says of every row of specs/Sheet.antt, and of the sample run, by computing. Assumes nothing.
 use mathlib.Core.Path.{◌≡◌, refl}
 use mathlib.Core.List.{[], map}
-use Rattle.past.specs.Answers.{answersBy}
+use Rattle.past.specs.Answers.{answers_by}
 use Rattle.past.specs.Sheet.{Row, told, settings, partitions, words, reports, hosts, noticing, credits, limits, sequences}
-use Rattle.past.specs.Sheet.{Link, found, links, allAt, sample, sampleAnswers}
+use Rattle.past.specs.Sheet.{Link, found, links, all_at, sample, sample_answers}
 use Rattle.past.proofs.Computing.{telling}
 
-pub sample-told : answersBy (allAt 0) [] sample ≡ sampleAnswers
+pub sample_told : answers_by (all_at 0) [] sample ≡ sample_answers
 unfolding telling
-sample-told = refl
+sample_told = refl
 
-pub links-found : map found links ≡ map (λ (w : Link). w.passes) links
+pub links_found : map found links ≡ map (λ (w : Link). w.passes) links
 unfolding telling
-links-found = refl
+links_found = refl
 
-pub settings-told : map told settings ≡ map (λ (w : Row). w.wanted) settings
+pub settings_told : map told settings ≡ map (λ (w : Row). w.wanted) settings
 unfolding telling
-settings-told = refl
+settings_told = refl
 
-pub partitions-told : map told partitions ≡ map (λ (w : Row). w.wanted) partitions
+pub partitions_told : map told partitions ≡ map (λ (w : Row). w.wanted) partitions
 unfolding telling
-partitions-told = refl
+partitions_told = refl
 
-pub words-told : map told words ≡ map (λ (w : Row). w.wanted) words
+pub words_told : map told words ≡ map (λ (w : Row). w.wanted) words
 unfolding telling
-words-told = refl
+words_told = refl
 
-pub reports-told : map told reports ≡ map (λ (w : Row). w.wanted) reports
+pub reports_told : map told reports ≡ map (λ (w : Row). w.wanted) reports
 unfolding telling
-reports-told = refl
+reports_told = refl
 
-pub hosts-told : map told hosts ≡ map (λ (w : Row). w.wanted) hosts
+pub hosts_told : map told hosts ≡ map (λ (w : Row). w.wanted) hosts
 unfolding telling
-hosts-told = refl
+hosts_told = refl
 
-pub noticing-told : map told noticing ≡ map (λ (w : Row). w.wanted) noticing
+pub noticing_told : map told noticing ≡ map (λ (w : Row). w.wanted) noticing
 unfolding telling
-noticing-told = refl
+noticing_told = refl
 
-pub credits-told : map told credits ≡ map (λ (w : Row). w.wanted) credits
+pub credits_told : map told credits ≡ map (λ (w : Row). w.wanted) credits
 unfolding telling
-credits-told = refl
+credits_told = refl
 
-pub limits-told : map told limits ≡ map (λ (w : Row). w.wanted) limits
+pub limits_told : map told limits ≡ map (λ (w : Row). w.wanted) limits
 unfolding telling
-limits-told = refl
+limits_told = refl
 
-pub sequences-told : map told sequences ≡ map (λ (w : Row). w.wanted) sequences
+pub sequences_told : map told sequences ≡ map (λ (w : Row). w.wanted) sequences
 unfolding telling
-sequences-told = refl
+sequences_told = refl

@@ -1,16 +1,16 @@
 -- Document 01, 'Burst' and the first half of 'Partition', and Q-2, with sets alone: what follows from a burst b when t are the ports sent to and h the ports heard.
 -- No single heard port is named: it is the one in h.
---   inE b i        == port i is active
+--   in_e b i        == port i is active
 --   none, one, more == nothing, exactly one port, several are heard
 --   signalled b h  == AUI alone is heard, and carries its collision signal
 --   crash b h      == it is a collision for the credits
---   wordBy b h     == the word; toldData b h == it is data
---   outBy t h i    == something goes out to port i
---   collidedBy b t h i == port i collides
---   cleanBy b t h i == the burst is clean for port i of T
---   lastingBy b t h i == and is longer than a fragment, which is nothing to a port
---   reconnectsBy alternate b t h i == such a burst connects port i again if it is partitioned
---   metBy alternate b t h i == the event that the burst is to port i
+--   word_by b h     == the word; told_data b h == it is data
+--   out_by t h i    == something goes out to port i
+--   collided_by b t h i == port i collides
+--   clean_by b t h i == the burst is clean for port i of T
+--   lasting_by b t h i == and is longer than a fragment, which is nothing to a port
+--   reconnects_by alternate b t h i == such a burst connects port i again if it is partitioned
+--   met_by alternate b t h i == the event that the burst is to port i
 -- Assumes nothing.
 use Rattle.std.specs.Prelude.{ℕ, Bool, cond, not, ◌&&◌, ◌||◌, eqb, leb, ltb}
 use Rattle.std.specs.Int.Count.{ones}
@@ -20,8 +20,8 @@ use Rattle.record.specs.declared.Burst.{Burst}
 use Rattle.burst.specs.declared.Word.{Word}
 use Rattle.burst.specs.declared.Word.TheVariants.{Nil, Rep, Jam}
 
-abbrev pub inE : Burst → ℕ → Bool
-inE b i = has b.mask i || (b.collision_signal && eqb i aui)
+abbrev pub in_e : Burst → ℕ → Bool
+in_e b i = has b.mask i || (b.collision_signal && eqb i aui)
 
 abbrev pub none : ℕ → Bool
 none h = eqb (ones h) 0
@@ -38,36 +38,36 @@ signalled b h = one h && has h aui && b.collision_signal
 abbrev pub crash : Burst → ℕ → Bool
 crash b h = more h || signalled b h
 
-unfoldable pub wordBy : Burst → ℕ → Word
-wordBy b h = cond (none h) Nil (cond (crash b h || b.rate_error) Jam Rep)
+unfoldable pub word_by : Burst → ℕ → Word
+word_by b h = cond (none h) Nil (cond (crash b h || b.rate_error) Jam Rep)
 
 -- one is heard, and neither its signal nor a rate error spoils it
-abbrev pub toldData : Burst → ℕ → Bool
-toldData b h = one h && not (signalled b h) && not b.rate_error
+abbrev pub told_data : Burst → ℕ → Bool
+told_data b h = one h && not (signalled b h) && not b.rate_error
 
 abbrev pub jams : Burst → ℕ → Bool
 jams b h = crash b h || (one h && b.rate_error)
 
-unfoldable pub outBy : ℕ → ℕ → ℕ → Bool
-outBy t h i = has t i && (more h || (one h && not (has h i)))
+unfoldable pub out_by : ℕ → ℕ → ℕ → Bool
+out_by t h i = has t i && (more h || (one h && not (has h i)))
 
 -- every active port of T, but for a single heard port that has no collision signal; and with nothing heard AUI alone, by its signal
-unfoldable pub collidedBy : Burst → ℕ → ℕ → ℕ → Bool
-collidedBy b t h i =
-    inE b i && has t i && (crash b h || (one h && not (has h i)) || (none h && eqb i aui && b.collision_signal))
+unfoldable pub collided_by : Burst → ℕ → ℕ → ℕ → Bool
+collided_by b t h i =
+    in_e b i && has t i && (crash b h || (one h && not (has h i)) || (none h && eqb i aui && b.collision_signal))
 
-unfoldable pub cleanBy : Burst → ℕ → ℕ → ℕ → Bool
-cleanBy b t h i = not (jams b h) && not (collidedBy b t h i) && (inE b i || (toldData b h && outBy t h i))
+unfoldable pub clean_by : Burst → ℕ → ℕ → ℕ → Bool
+clean_by b t h i = not (jams b h) && not (collided_by b t h i) && (in_e b i || (told_data b h && out_by t h i))
 
-unfoldable pub lastingBy : Burst → ℕ → ℕ → ℕ → Bool
-lastingBy b t h i = cleanBy b t h i && ltb 512 b.d
+unfoldable pub lasting_by : Burst → ℕ → ℕ → ℕ → Bool
+lasting_by b t h i = clean_by b t h i && ltb 512 b.d
 
-unfoldable pub reconnectsBy : Bool → Burst → ℕ → ℕ → ℕ → Bool
-reconnectsBy alternate b t h i = not alternate || (toldData b h && outBy t h i)
+unfoldable pub reconnects_by : Bool → Burst → ℕ → ℕ → ℕ → Bool
+reconnects_by alternate b t h i = not alternate || (told_data b h && out_by t h i)
 
-unfoldable pub metBy : Bool → Burst → ℕ → ℕ → ℕ → Event
-metBy alternate b t h i =
+unfoldable pub met_by : Bool → Burst → ℕ → ℕ → ℕ → Event
+met_by alternate b t h i =
     cond (not (has t i)) neither
-    (cond (collidedBy b t h i) (collided b.x)
-    (cond (lastingBy b t h i) (clean (reconnectsBy alternate b t h i))
+    (cond (collided_by b t h i) (collided b.x)
+    (cond (lasting_by b t h i) (clean (reconnects_by alternate b t h i))
     neither))

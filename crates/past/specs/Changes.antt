@@ -2,72 +2,72 @@
 -- the interface error.
 --   changes first r j      == the event of bit j of change register R
 --   clears r               == a read of that register, or a reset
---   changeBy first past r j == the bit after a past
---   allowedBy past r       == the enables of R as last written since the last reset
---   interruptBy first past == some change bit and its enable are both one
---   errorBy past           == a Get through S or a Set through G came since the last C read or reset
+--   change_by first past r j == the bit after a past
+--   allowed_by past r       == the enables of R as last written since the last reset
+--   interrupt_by first past == some change bit and its enable are both one
+--   error_by past           == a Get through S or a Set through G came since the last C read or reset
 -- Assumes nothing.
 use Rattle.std.specs.Prelude.{ℕ, zero, suc, Bool, true, false, cond, not, ◌&&◌, ◌||◌, List, [], ◌∷◌, eqb}
 use Rattle.std.specs.Bool.{beq}
 use Rattle.ports.specs.Sets.{aui, has}
 use Rattle.host.specs.declared.Register.{Register}
 use Rattle.host.specs.declared.Register.TheVariants as reg
-use Rattle.past.specs.Deeds.{Deed, Use, bursts, pulses, ticks, commands, uses, resets, refused, selectsP, selectsR, allows, addresses, asks, reads}
-use Rattle.past.specs.Deeds.{isReset, ifUse}
-use Rattle.past.specs.Since.{cameSince}
-use Rattle.past.specs.Link.{passesBy}
-use Rattle.past.specs.Partition.{partitionedBy}
+use Rattle.past.specs.Deeds.{Deed, Use, bursts, pulses, ticks, commands, uses, resets, refused, selects_p, selects_r, allows, addresses, asks, reads}
+use Rattle.past.specs.Deeds.{is_reset, if_use}
+use Rattle.past.specs.Since.{came_since}
+use Rattle.past.specs.Link.{passes_by}
+use Rattle.past.specs.Partition.{partitioned_by}
 use Rattle.past.specs.Addresses.{newcomer}
-use Rattle.past.specs.Status.{isGet, loopback, sqe}
+use Rattle.past.specs.Status.{is_get, loopback, sqe}
 
 -- ---- Change bits
 
 abbrev pub differs : Bool → Bool → Bool
 differs a b = not (beq a b)
 
-abbrev pub turnsPartition : ℕ → List Deed → Deed → Bool
-turnsPartition i past d = differs (partitionedBy past i) (partitionedBy (d ∷ past) i)
+abbrev pub turns_partition : ℕ → List Deed → Deed → Bool
+turns_partition i past d = differs (partitioned_by past i) (partitioned_by (d ∷ past) i)
 
-abbrev pub turnsLink : ℕ → List Deed → Deed → Bool
-turnsLink i past d = differs (passesBy i past) (passesBy i (d ∷ past))
+abbrev pub turns_link : ℕ → List Deed → Deed → Bool
+turns_link i past d = differs (passes_by i past) (passes_by i (d ∷ past))
 
 -- TP bits are bits 0 to 7, a single AUI bit is bit 7
 unfoldable pub changes : (ℕ → List ℕ) → ℕ → ℕ → List Deed → Deed → Bool
 changes first r j past d =
-    cond (eqb r 0) (turnsPartition j past d)
-    (cond (eqb r 1) (eqb j 7 && turnsPartition aui past d)
-    (cond (eqb r 2) (turnsLink j past d)
+    cond (eqb r 0) (turns_partition j past d)
+    (cond (eqb r 1) (eqb j 7 && turns_partition aui past d)
+    (cond (eqb r 2) (turns_link j past d)
     (cond (eqb r 3) (eqb j 7 && loopback past d)
     (cond (eqb r 4) (eqb j 7 && sqe past d)
     (cond (eqb r 6) (newcomer first past d j)
     (cond (eqb r 7) (eqb j 7 && newcomer first past d aui)
     false))))))
 
-abbrev pub isChange : ℕ → Register → Bool
-isChange r reg.Unlisted = false
-isChange r reg.TransmitCollisions = false
-isChange r reg.TotalOctets = false
-isChange r reg.Version = false
-isChange r reg.SetPort = false
-isChange r reg.GetPort = false
-isChange r (reg.Change k) = eqb k r
-isChange r (reg.Enable k) = false
-isChange r (reg.Counter i k) = false
-isChange r (reg.Address i) = false
+abbrev pub is_change : ℕ → Register → Bool
+is_change r reg.Unlisted = false
+is_change r reg.TransmitCollisions = false
+is_change r reg.TotalOctets = false
+is_change r reg.Version = false
+is_change r reg.SetPort = false
+is_change r reg.GetPort = false
+is_change r (reg.Change k) = eqb k r
+is_change r (reg.Enable k) = false
+is_change r (reg.Counter i k) = false
+is_change r (reg.Address i) = false
 
-abbrev pub readsChange : ℕ → Use → Bool
-readsChange r (selectsP n) = false
-readsChange r (selectsR n) = false
-readsChange r (allows k b) = false
-readsChange r (addresses i b) = false
-readsChange r asks = false
-readsChange r (reads register size) = isChange r register
+abbrev pub reads_change : ℕ → Use → Bool
+reads_change r (selects_p n) = false
+reads_change r (selects_r n) = false
+reads_change r (allows k b) = false
+reads_change r (addresses i b) = false
+reads_change r asks = false
+reads_change r (reads register size) = is_change r register
 
 unfoldable pub clears : ℕ → List Deed → Deed → Bool
-clears r past d = isReset d || ifUse false (readsChange r) d
+clears r past d = is_reset d || if_use false (reads_change r) d
 
-unfoldable pub changeBy : (ℕ → List ℕ) → List Deed → ℕ → ℕ → Bool
-changeBy first past r j = cameSince (changes first r j) (clears r) past
+unfoldable pub change_by : (ℕ → List ℕ) → List Deed → ℕ → ℕ → Bool
+change_by first past r j = came_since (changes first r j) (clears r) past
 
 -- ---- Enables
 
@@ -75,44 +75,44 @@ changeBy first past r j = cameSince (changes first r j) (clears r) past
 abbrev pub kept : ℕ → ℕ → ℕ
 kept r b = cond (eqb r 0 || eqb r 2 || eqb r 6) b (cond (has b 7) 128 0)
 
-abbrev pub allowedUsed : ℕ → ℕ → Use → ℕ
-allowedUsed r e (selectsP n) = e
-allowedUsed r e (selectsR n) = e
-allowedUsed r e (allows k b) = cond (eqb k r) (kept r b) e
-allowedUsed r e (addresses i b) = e
-allowedUsed r e asks = e
-allowedUsed r e (reads register size) = e
+abbrev pub allowed_used : ℕ → ℕ → Use → ℕ
+allowed_used r e (selects_p n) = e
+allowed_used r e (selects_r n) = e
+allowed_used r e (allows k b) = cond (eqb k r) (kept r b) e
+allowed_used r e (addresses i b) = e
+allowed_used r e asks = e
+allowed_used r e (reads register size) = e
 
-unfoldable pub allowedBy : List Deed → ℕ → ℕ
-allowedBy [] r = 0
-allowedBy (d ∷ past) r = cond (isReset d) 0 (ifUse (allowedBy past r) (allowedUsed r (allowedBy past r)) d)
+unfoldable pub allowed_by : List Deed → ℕ → ℕ
+allowed_by [] r = 0
+allowed_by (d ∷ past) r = cond (is_reset d) 0 (if_use (allowed_by past r) (allowed_used r (allowed_by past r)) d)
 
 -- ---- The C read
 
 -- f says yes to one of the first n numbers
-unfoldable pub anyBelow : ℕ → (ℕ → Bool) → Bool
-anyBelow zero f = false
-anyBelow (suc n) f = f n || anyBelow n f
+unfoldable pub any_below : ℕ → (ℕ → Bool) → Bool
+any_below zero f = false
+any_below (suc n) f = f n || any_below n f
 
-unfoldable pub interruptBy : (ℕ → List ℕ) → List Deed → Bool
-interruptBy first past = anyBelow 8 (λ r. anyBelow 8 (λ j. changeBy first past r j && has (allowedBy past r) j))
+unfoldable pub interrupt_by : (ℕ → List ℕ) → List Deed → Bool
+interrupt_by first past = any_below 8 (λ r. any_below 8 (λ j. change_by first past r j && has (allowed_by past r) j))
 
-abbrev pub wrongWay : List Deed → Deed → Bool
-wrongWay past (bursts b source) = false
-wrongWay past (pulses mask) = false
-wrongWay past ticks = false
-wrongWay past (commands throughG c) = cond throughG (not (isGet c)) (isGet c)
-wrongWay past (uses u) = false
-wrongWay past resets = false
-wrongWay past (refused k) = false
+abbrev pub wrong_way : List Deed → Deed → Bool
+wrong_way past (bursts b source) = false
+wrong_way past (pulses mask) = false
+wrong_way past ticks = false
+wrong_way past (commands through_g c) = cond through_g (not (is_get c)) (is_get c)
+wrong_way past (uses u) = false
+wrong_way past resets = false
+wrong_way past (refused k) = false
 
-abbrev pub isAsk : Use → Bool
-isAsk (selectsP n) = false
-isAsk (selectsR n) = false
-isAsk (allows k b) = false
-isAsk (addresses i b) = false
-isAsk asks = true
-isAsk (reads register size) = false
+abbrev pub is_ask : Use → Bool
+is_ask (selects_p n) = false
+is_ask (selects_r n) = false
+is_ask (allows k b) = false
+is_ask (addresses i b) = false
+is_ask asks = true
+is_ask (reads register size) = false
 
-unfoldable pub errorBy : List Deed → Bool
-errorBy past = cameSince wrongWay (λ before d. isReset d || ifUse false isAsk d) past
+unfoldable pub error_by : List Deed → Bool
+error_by past = came_since wrong_way (λ before d. is_reset d || if_use false is_ask d) past

@@ -6,51 +6,51 @@
 --   trained i n ticks past == before so many ticks there were n pulses of port i, fewer than a hundred ticks in each gap, with no reset, no opening and no
 --                      switching among them
 --   raises, breaks  == what brings the link up, and what brings it down
---   passesBy i past == the link passes
+--   passes_by i past == the link passes
 -- Assumes nothing.
 use Rattle.std.specs.Prelude.{ℕ, zero, suc, ◌+◌, Bool, true, false, cond, not, ◌&&◌, ◌||◌, List, [], ◌∷◌, ltb}
 use Rattle.ports.specs.Sets.{has}
-use Rattle.past.specs.Deeds.{Deed, isReset, isTick, pulseMask, burstMask}
-use Rattle.past.specs.Since.{cameSince}
-use Rattle.past.specs.Settings.{enabling, stopping, starting, commanded, enabledBy, testedBy}
+use Rattle.past.specs.Deeds.{Deed, is_reset, is_tick, pulse_mask, burst_mask}
+use Rattle.past.specs.Since.{came_since}
+use Rattle.past.specs.Settings.{enabling, stopping, starting, commanded, enabled_by, tested_by}
 
 abbrev pub active : ℕ → Deed → Bool
-active i d = has (burstMask d) i
+active i d = has (burst_mask d) i
 
 abbrev pub pulsed : ℕ → Deed → Bool
-pulsed i d = has (pulseMask d) i
+pulsed i d = has (pulse_mask d) i
 
 abbrev pub started : ℕ → List Deed → Deed → Bool
-started i before d = commanded (starting i) d && not (testedBy i before)
+started i before d = commanded (starting i) d && not (tested_by i before)
 
 abbrev pub stopped : ℕ → List Deed → Deed → Bool
-stopped i before d = commanded (stopping i) d && testedBy i before
+stopped i before d = commanded (stopping i) d && tested_by i before
 
 abbrev pub opened : ℕ → List Deed → Deed → Bool
-opened i before d = commanded (enabling i) d && not (enabledBy i before) && testedBy i before
+opened i before d = commanded (enabling i) d && not (enabled_by i before) && tested_by i before
 
 unfoldable pub silent : ℕ → ℕ → List Deed → Bool
 silent i zero past = true
 silent i (suc n) [] = false
 silent i (suc n) (d ∷ past) =
-    not (pulsed i d || active i d || started i past d) && cond (isTick d) (silent i n past) (silent i (suc n) past)
+    not (pulsed i d || active i d || started i past d) && cond (is_tick d) (silent i n past) (silent i (suc n) past)
 
 unfoldable pub trained : ℕ → ℕ → ℕ → List Deed → Bool
 trained i zero ticks past = true
 trained i (suc n) ticks [] = false
 trained i (suc n) ticks (d ∷ past) =
-    not (isReset d || opened i past d || started i past d || stopped i past d)
-    && cond (isTick d) (trained i (suc n) (ticks + 1) past)
+    not (is_reset d || opened i past d || started i past d || stopped i past d)
+    && cond (is_tick d) (trained i (suc n) (ticks + 1) past)
     (cond (pulsed i d) (ltb ticks 100 && trained i n 0 past)
     (trained i (suc n) ticks past))
 
 -- under test: activity; the fourth of four pulses
 unfoldable pub raises : ℕ → List Deed → Deed → Bool
-raises i before d = started i before d || (testedBy i before && (active i d || (pulsed i d && trained i 3 0 before)))
+raises i before d = started i before d || (tested_by i before && (active i d || (pulsed i d && trained i 3 0 before)))
 
 -- under test: the hundredth silent tick
 unfoldable pub breaks : ℕ → List Deed → Deed → Bool
-breaks i before d = isReset d || opened i before d || (testedBy i before && isTick d && silent i 99 before)
+breaks i before d = is_reset d || opened i before d || (tested_by i before && is_tick d && silent i 99 before)
 
-unfoldable pub passesBy : ℕ → List Deed → Bool
-passesBy i past = not (testedBy i past) || cameSince (raises i) (breaks i) past
+unfoldable pub passes_by : ℕ → List Deed → Bool
+passes_by i past = not (tested_by i past) || came_since (raises i) (breaks i) past

@@ -1,8 +1,8 @@
 -- Document 01's record and its refusals at chosen bytes: each number, each kind, each limit from both sides, and the order of
 -- the rows. The expected answers are read off the paper.
---     zero-places           the bytes that must be zero, kind by kind
+--     zero_places           the bytes that must be zero, kind by kind
 --     burst                 the bytes of a burst from a chosen address
---     sheet, sheet-holds    bytes with what they ask for, and that they do
+--     sheet, sheet_holds    bytes with what they ask for, and that they do
 --     raw, as_written       the same with every byte that is not zero written out: the number of each kind, each flag, each field
 -- Assumes nothing.
 use Prim.Native.Nat.{ℕ}
@@ -11,14 +11,14 @@ use mathlib.Core.List.{List, [], ◌∷◌, ◌++◌, map}
 use mathlib.Core.Bool.{Bool, true, false}
 use lib.ListN.{set, replicate}
 use Rattle.ports.specs.declared.Quiet.{Quiet}
-use Rattle.record.specs.Record.{tickKind, cReadKind, bytesFrom, Kind, kinds, find, used, unused, mustBeZero, allZero, stray}
-use Rattle.record.specs.Refusals.{badNumbers, nothingActive, selectsNeither, refusals, first_of, answer, refused, recordOf}
-use Rattle.record.specs.Records.{from, burstRecord, plainRecord, pulseRecord, tickRecord, cWriteRecord, dWriteRecord, cReadRecord, dReadRecord, resetRecord}
+use Rattle.record.specs.Record.{tick_kind, c_read_kind, bytes_from, Kind, kinds, find, used, unused, must_be_zero, all_zero, stray}
+use Rattle.record.specs.Refusals.{bad_numbers, nothing_active, selects_neither, refusals, first_of, answer, refused, record_of}
+use Rattle.record.specs.Records.{from, burst_record, plain_record, pulse_record, tick_record, c_write_record, d_write_record, c_read_record, d_read_record, reset_record}
 use Rattle.record.specs.declared.Access.{Access}
 use Rattle.record.specs.declared.Asked.{Asked}
 
-pub zero-places :
-    map (λ (e : Kind). mustBeZero e.uses) kinds
+pub zero_places :
+    map (λ (e : Kind). must_be_zero e.uses) kinds
     ≡ (13 ∷ 14 ∷ 15 ∷ 30 ∷ 31 ∷ [])
     ∷ (1 ∷ from 4 28)
     ∷ from 1 31
@@ -29,13 +29,13 @@ pub zero-places :
     ∷ from 1 31
     ∷ []
 unfolding unused used
-zero-places = refl
+zero_places = refl
 
 abbrev pub address : List ℕ
 address = 0xa1 ∷ 0xb2 ∷ 0xc3 ∷ 0xd4 ∷ 0xe5 ∷ 0xf6 ∷ []
 
 abbrev pub burst : (flags mask d n k c x : ℕ) → List ℕ
-burst flags mask d n k c x = burstRecord mask flags d n k c x address
+burst flags mask d n k c x = burst_record mask flags d n k c x address
 
 -- a burst without flags
 abbrev plain : (mask d n k c x : ℕ) → Asked
@@ -62,61 +62,61 @@ pub record Line : Type 0 where
 abbrev line : List ℕ → Asked → Line
 line s a = record { bytes = s; asked = a }
 
-abbrev kindLines : List Line
-kindLines =
+abbrev kind_lines : List Line
+kind_lines =
     line (burst 0 1 1000 64 0 0 0) (plain 1 1000 64 0 0 0)
-    ∷ line (pulseRecord 3) (Asked.Quiet (Quiet.Pulse 3))
-    ∷ line tickRecord (Asked.Quiet Quiet.Tick)
-    ∷ line (cWriteRecord 0x10) (Asked.Access (Access.WriteC 0x10))
-    ∷ line (dWriteRecord 0xff) (Asked.Access (Access.WriteD 0xff))
-    ∷ line cReadRecord (Asked.Access Access.ReadC)
-    ∷ line dReadRecord (Asked.Access Access.ReadD)
-    ∷ line resetRecord Asked.Reset
+    ∷ line (pulse_record 3) (Asked.Quiet (Quiet.Pulse 3))
+    ∷ line tick_record (Asked.Quiet Quiet.Tick)
+    ∷ line (c_write_record 0x10) (Asked.Access (Access.WriteC 0x10))
+    ∷ line (d_write_record 0xff) (Asked.Access (Access.WriteD 0xff))
+    ∷ line c_read_record (Asked.Access Access.ReadC)
+    ∷ line d_read_record (Asked.Access Access.ReadD)
+    ∷ line reset_record Asked.Reset
     ∷ []
 
 -- 9: no bytes, one too few, one too many, and before 8
-abbrev lengthLines : List Line
-lengthLines =
+abbrev length_lines : List Line
+length_lines =
     line [] (Asked.Refused 9)
-    ∷ line (tickKind ∷ replicate 30 0) (Asked.Refused 9)
-    ∷ line (tickKind ∷ replicate 32 0) (Asked.Refused 9)
+    ∷ line (tick_kind ∷ replicate 30 0) (Asked.Refused 9)
+    ∷ line (tick_kind ∷ replicate 32 0) (Asked.Refused 9)
     ∷ line (9 ∷ replicate 30 0) (Asked.Refused 9)
     ∷ []
 
 -- 8: kinds 0 and 9; byte 13 of a burst, before 3; its bytes 14, 15, 30, 31 and flag bit 5; a tick's flags and mask; byte 13 of
 -- a pulse, before 3; the mask of a C write, before 7; the source address of a D write; byte 13 of a C read
-abbrev strayLines : List Line
-strayLines =
-    line (plainRecord 0 0 0) (Asked.Refused 8)
-    ∷ line (plainRecord 9 0 0) (Asked.Refused 8)
+abbrev stray_lines : List Line
+stray_lines =
+    line (plain_record 0 0 0) (Asked.Refused 8)
+    ∷ line (plain_record 9 0 0) (Asked.Refused 8)
     ∷ line (set (burst 0 512 1000 64 0 0 0) 13 1) (Asked.Refused 8)
     ∷ line (set (burst 0 1 1000 64 0 0 0) 14 1) (Asked.Refused 8)
     ∷ line (set (burst 0 1 1000 64 0 0 0) 15 1) (Asked.Refused 8)
     ∷ line (set (burst 0 1 1000 64 0 0 0) 30 1) (Asked.Refused 8)
     ∷ line (set (burst 0 1 1000 64 0 0 0) 31 128) (Asked.Refused 8)
     ∷ line (burst 32 1 1000 64 0 0 0) (Asked.Refused 8)
-    ∷ line (set tickRecord 1 4) (Asked.Refused 8)
-    ∷ line (set tickRecord 2 1) (Asked.Refused 8)
-    ∷ line (set (pulseRecord 256) 13 1) (Asked.Refused 8)
-    ∷ line (set (cWriteRecord 0x20) 3 1) (Asked.Refused 8)
-    ∷ line (set (dWriteRecord 0) 29 1) (Asked.Refused 8)
-    ∷ line (plainRecord cReadKind 0 1) (Asked.Refused 8)
+    ∷ line (set tick_record 1 4) (Asked.Refused 8)
+    ∷ line (set tick_record 2 1) (Asked.Refused 8)
+    ∷ line (set (pulse_record 256) 13 1) (Asked.Refused 8)
+    ∷ line (set (c_write_record 0x20) 3 1) (Asked.Refused 8)
+    ∷ line (set (d_write_record 0) 29 1) (Asked.Refused 8)
+    ∷ line (plain_record c_read_kind 0 1) (Asked.Refused 8)
     ∷ []
 
 -- 3: bit 9 of a burst's mask, before 2, and bit 8 of a pulse's; not the bits below. A pulse's mask may be 0
-abbrev maskLines : List Line
-maskLines =
+abbrev mask_lines : List Line
+mask_lines =
     line (burst 0 512 0 0 0 0 0) (Asked.Refused 3)
     ∷ line (burst 0 32768 1000 64 0 0 0) (Asked.Refused 3)
     ∷ line (burst 0 511 1000 64 0 0 0) (plain 511 1000 64 0 0 0)
-    ∷ line (pulseRecord 256) (Asked.Refused 3)
-    ∷ line (pulseRecord 255) (Asked.Quiet (Quiet.Pulse 255))
-    ∷ line (pulseRecord 0) (Asked.Quiet (Quiet.Pulse 0))
+    ∷ line (pulse_record 256) (Asked.Refused 3)
+    ∷ line (pulse_record 255) (Asked.Quiet (Quiet.Pulse 255))
+    ∷ line (pulse_record 0) (Asked.Quiet (Quiet.Pulse 0))
     ∷ []
 
 -- 2: d, k, 8n + k and c + x on either side of their limits; sums beyond 2 ^ 32; before 1, and with mask 0 and flag bit 2
-abbrev numberLines : List Line
-numberLines =
+abbrev number_lines : List Line
+number_lines =
     line (burst 0 1 0 0 0 0 0) (Asked.Refused 2)
     ∷ line (burst 0 1 1 0 0 0 0) (plain 1 1 0 0 0 0)
     ∷ line (burst 0 1 1000000 0 0 0 0) (plain 1 1000000 0 0 0 0)
@@ -134,8 +134,8 @@ numberLines =
     ∷ []
 
 -- 1: mask 0, unless flag bit 2 is set, whatever the other flags
-abbrev portLines : List Line
-portLines =
+abbrev port_lines : List Line
+port_lines =
     line (burst 0 0 1000 64 0 0 0) (Asked.Refused 1)
     ∷ line (burst 27 0 1000 64 0 0 0) (Asked.Refused 1)
     ∷ line (burst 31 0 1000 64 0 0 0)
@@ -156,21 +156,21 @@ portLines =
     ∷ []
 
 -- 7: the first and the last byte that selects nothing, and their neighbours. It is no refusal of a D write
-abbrev selectLines : List Line
-selectLines =
-    line (cWriteRecord 0x1f) (Asked.Access (Access.WriteC 0x1f))
-    ∷ line (cWriteRecord 0x20) (Asked.Refused 7)
-    ∷ line (cWriteRecord 0xdf) (Asked.Refused 7)
-    ∷ line (cWriteRecord 0xe0) (Asked.Access (Access.WriteC 0xe0))
-    ∷ line (dWriteRecord 0x20) (Asked.Access (Access.WriteD 0x20))
+abbrev select_lines : List Line
+select_lines =
+    line (c_write_record 0x1f) (Asked.Access (Access.WriteC 0x1f))
+    ∷ line (c_write_record 0x20) (Asked.Refused 7)
+    ∷ line (c_write_record 0xdf) (Asked.Refused 7)
+    ∷ line (c_write_record 0xe0) (Asked.Access (Access.WriteC 0xe0))
+    ∷ line (d_write_record 0x20) (Asked.Access (Access.WriteD 0x20))
     ∷ []
 
 abbrev pub sheet : List Line
-sheet = kindLines ++ lengthLines ++ strayLines ++ maskLines ++ numberLines ++ portLines ++ selectLines
+sheet = kind_lines ++ length_lines ++ stray_lines ++ mask_lines ++ number_lines ++ port_lines ++ select_lines
 
-pub sheet-holds : map (λ (l : Line). (recordOf l.bytes).asked) sheet ≡ map (λ (l : Line). l.asked) sheet
-unfolding recordOf answer first_of refusals selectsNeither nothingActive badNumbers stray allZero unused used find bytesFrom
-sheet-holds = refl
+pub sheet_holds : map (λ (l : Line). (record_of l.bytes).asked) sheet ≡ map (λ (l : Line). l.asked) sheet
+unfolding record_of answer first_of refusals selects_neither nothing_active bad_numbers stray all_zero unused used find bytes_from
+sheet_holds = refl
 
 -- 32 zeros but for these bytes, by their place
 abbrev raw : List (ℕ × ℕ) → List ℕ
@@ -200,8 +200,8 @@ marked fcs rate signal loopback sqe =
     })
 
 -- kinds 1 to 8 in order, the first with a number in every field, and 9; then each flag by itself
-abbrev rawLines : List Line
-rawLines =
+abbrev raw_lines : List Line
+raw_lines =
     line (raw ((0, 1) ∷ (2, 2) ∷ (3, 1) ∷ (4, 8) ∷ (5, 9) ∷ (6, 10) ∷ (8, 3) ∷ (9, 2) ∷ (10, 1) ∷ (12, 5) ∷ (16, 7) ∷ (17, 6) ∷ (18, 4) ∷ (20, 3) ∷ (21, 2) ∷ (22, 1) ∷ []))
     (plain 0x0102 0x0a0908 0x010203 5 0x040607 0x010203)
     ∷ line (raw ((0, 2) ∷ (2, 0xa5) ∷ [])) (Asked.Quiet (Quiet.Pulse 0xa5))
@@ -219,15 +219,15 @@ rawLines =
     ∷ line (flags 0b10000) (marked false false false false true)
     ∷ []
 
-pub as_written : map (λ (l : Line). l.asked) rawLines ≡ map (λ (l : Line). (recordOf l.bytes).asked) rawLines
-unfolding recordOf answer first_of refusals selectsNeither nothingActive badNumbers stray allZero unused used find bytesFrom
+pub as_written : map (λ (l : Line). l.asked) raw_lines ≡ map (λ (l : Line). (record_of l.bytes).asked) raw_lines
+unfolding record_of answer first_of refusals selects_neither nothing_active bad_numbers stray all_zero unused used find bytes_from
 as_written = refl
 
 -- the source address, bytes 24 to 29 in order, and beside a refusal
-pub source-in-order : (recordOf (burst 0 1 1000 64 0 0 0)).source ≡ address
-unfolding recordOf answer first_of refusals selectsNeither nothingActive badNumbers stray allZero unused used find bytesFrom
-source-in-order = refl
+pub source_in_order : (record_of (burst 0 1 1000 64 0 0 0)).source ≡ address
+unfolding record_of answer first_of refusals selects_neither nothing_active bad_numbers stray all_zero unused used find bytes_from
+source_in_order = refl
 
-pub source-refused : recordOf (burst 0 1 0 64 0 0 0) ≡ refused 2
-unfolding recordOf answer first_of refusals selectsNeither nothingActive badNumbers stray allZero unused used find bytesFrom
-source-refused = refl
+pub source_refused : record_of (burst 0 1 0 64 0 0 0) ≡ refused 2
+unfolding record_of answer first_of refusals selects_neither nothing_active bad_numbers stray all_zero unused used find bytes_from
+source_refused = refl

@@ -3,9 +3,9 @@
 ghost use Rattle.std.specs.Prelude.{◌≡◌, cond, ℕ, ◌+◌, ◌*◌, ◌≤◌, ◌<◌, ltb, length};
 ghost use Rattle.std.specs.Int.Bits.{bit_or};
 ghost use Rattle.spelling.specs.Spelling.{spelt};
-ghost use Rattle.record.specs.Record.{burstKind, pulseKind, tickKind, cWriteKind, dWriteKind};
-ghost use Rattle.record.specs.Record.{recordLength, byte_at, bytesFrom, bit, burstOf, stray};
-ghost use Rattle.record.specs.Refusals.{badNumbers, nothingActive, selectsNeither, refused, accepted, recordOf};
+ghost use Rattle.record.specs.Record.{burst_kind, pulse_kind, tick_kind, c_write_kind, d_write_kind};
+ghost use Rattle.record.specs.Record.{record_length, byte_at, bytes_from, bit, burst_of, stray};
+ghost use Rattle.record.specs.Refusals.{bad_numbers, nothing_active, selects_neither, refused, accepted, record_of};
 
 use ports::Quiet;
 
@@ -54,7 +54,7 @@ pub struct Record {
 
 // What any bytes are, however many: the first refusal in the paper's order, or else what they ask for.
 pub fn read_record(bytes: &[u8]) -> Record
-    ensures { result ≡ recordOf bytes.now }
+    ensures { result ≡ record_of bytes.now }
 {
     if bytes.len() != Record::LENGTH {
         return Record::refused(9);
@@ -74,8 +74,8 @@ pub fn read_record(bytes: &[u8]) -> Record
 
 // A burst.
 fn read_burst(bytes: &[u8]) -> Record
-    requires { (length bytes.now ≡ recordLength) × (byte_at bytes.now 0 ≡ burstKind) }
-    ensures { result ≡ recordOf bytes.now }
+    requires { (length bytes.now ≡ record_length) × (byte_at bytes.now 0 ≡ burst_kind) }
+    ensures { result ≡ record_of bytes.now }
 {
     if stray_burst(bytes) {
         return Record::refused(8);
@@ -95,8 +95,8 @@ fn read_burst(bytes: &[u8]) -> Record
 
 // Link pulses.
 fn read_pulse(bytes: &[u8]) -> Record
-    requires { (length bytes.now ≡ recordLength) × (byte_at bytes.now 0 ≡ pulseKind) }
-    ensures { result ≡ recordOf bytes.now }
+    requires { (length bytes.now ≡ record_length) × (byte_at bytes.now 0 ≡ pulse_kind) }
+    ensures { result ≡ record_of bytes.now }
 {
     if stray_pulse(bytes) {
         return Record::refused(8);
@@ -110,8 +110,8 @@ fn read_pulse(bytes: &[u8]) -> Record
 
 // A C write.
 fn read_c_write(bytes: &[u8]) -> Record
-    requires { (length bytes.now ≡ recordLength) × (byte_at bytes.now 0 ≡ cWriteKind) }
-    ensures { result ≡ recordOf bytes.now }
+    requires { (length bytes.now ≡ record_length) × (byte_at bytes.now 0 ≡ c_write_kind) }
+    ensures { result ≡ record_of bytes.now }
 {
     if stray_write(bytes) {
         return Record::refused(8);
@@ -124,8 +124,8 @@ fn read_c_write(bytes: &[u8]) -> Record
 
 // A D write.
 fn read_d_write(bytes: &[u8]) -> Record
-    requires { (length bytes.now ≡ recordLength) × (byte_at bytes.now 0 ≡ dWriteKind) }
-    ensures { result ≡ recordOf bytes.now }
+    requires { (length bytes.now ≡ record_length) × (byte_at bytes.now 0 ≡ d_write_kind) }
+    ensures { result ≡ record_of bytes.now }
 {
     if stray_write(bytes) {
         return Record::refused(8);
@@ -135,8 +135,8 @@ fn read_d_write(bytes: &[u8]) -> Record
 
 // A kind whose number is all that may stand in the record: a tick, a read or a reset.
 fn read_bare(bytes: &[u8], asked: Asked) -> Record
-    requires { length bytes.now ≡ recordLength }
-    ensures { result ≡ cond (stray tickKind bytes.now) (refused 8) (accepted asked bytes.now) }
+    requires { length bytes.now ≡ record_length }
+    ensures { result ≡ cond (stray tick_kind bytes.now) (refused 8) (accepted asked bytes.now) }
 {
     if stray_bare(bytes) {
         return Record::refused(8);
@@ -181,7 +181,7 @@ impl Record {
 
     // Bytes that ask for this, with their source address.
     fn accepted(asked: Asked, bytes: &[u8]) -> Record
-        requires { length bytes.now ≡ recordLength }
+        requires { length bytes.now ≡ record_length }
         ensures { result ≡ accepted asked bytes.now }
     {
         let source = [
@@ -206,8 +206,8 @@ impl Burst {
 
     // The fields of a burst, whatever they hold.
     fn read(bytes: &[u8]) -> Burst
-        requires { length bytes.now ≡ recordLength }
-        ensures { result ≡ burstOf bytes.now }
+        requires { length bytes.now ≡ record_length }
+        ensures { result ≡ burst_of bytes.now }
     {
         let flags = bytes[1];
         Burst {
@@ -227,7 +227,7 @@ impl Burst {
 
     // Row 2: a duration, a count or a sum out of its bounds.
     fn bad_numbers(self) -> bool
-        ensures { result ≡ badNumbers self }
+        ensures { result ≡ bad_numbers self }
     {
         if self.d == 0 {
             return true;
@@ -246,7 +246,7 @@ impl Burst {
 
     // Row 1: no port is active, and no AUI collision signal either.
     fn nothing_active(self) -> bool
-        ensures { result ≡ nothingActive self }
+        ensures { result ≡ nothing_active self }
     {
         if self.mask == 0 {
             return !self.collision_signal;
@@ -271,7 +271,7 @@ fn collision_past(d: u32, c: u32, x: u32) -> bool
 
 // Row 7: a byte written to C that selects neither P nor R.
 pub fn selects_neither(byte: u8) -> bool
-    ensures { result ≡ selectsNeither byte }
+    ensures { result ≡ selects_neither byte }
 {
     let top = byte >> 5;
     if top == 0b000 {
@@ -282,8 +282,8 @@ pub fn selects_neither(byte: u8) -> bool
 
 // Row 8 for a burst: flag bits 5 to 7, or byte 13, 14, 15, 30 or 31, is not zero.
 fn stray_burst(bytes: &[u8]) -> bool
-    requires { length bytes.now ≡ recordLength }
-    ensures { result ≡ stray burstKind bytes.now }
+    requires { length bytes.now ≡ record_length }
+    ensures { result ≡ stray burst_kind bytes.now }
 {
     if Burst::FLAGS_END <= bytes[1] {
         return true;
@@ -293,8 +293,8 @@ fn stray_burst(bytes: &[u8]) -> bool
 
 // Row 8 for a link pulse: a byte other than its kind and its mask is not zero.
 fn stray_pulse(bytes: &[u8]) -> bool
-    requires { length bytes.now ≡ recordLength }
-    ensures { result ≡ stray pulseKind bytes.now }
+    requires { length bytes.now ≡ record_length }
+    ensures { result ≡ stray pulse_kind bytes.now }
 {
     let first = spelling::four(0, bytes[1], 0, 0);
     let fourth = number32(bytes, 12);
@@ -303,8 +303,8 @@ fn stray_pulse(bytes: &[u8]) -> bool
 
 // Row 8 for a C or D write: a byte other than its kind and the written one is not zero.
 fn stray_write(bytes: &[u8]) -> bool
-    requires { length bytes.now ≡ recordLength }
-    ensures { result ≡ stray cWriteKind bytes.now }
+    requires { length bytes.now ≡ record_length }
+    ensures { result ≡ stray c_write_kind bytes.now }
 {
     let first = spelling::four(0, bytes[1], bytes[2], bytes[3]);
     let fourth = spelling::four(bytes[12], 0, bytes[14], bytes[15]);
@@ -313,8 +313,8 @@ fn stray_write(bytes: &[u8]) -> bool
 
 // Row 8 for a kind that uses nothing more: a byte other than its kind is not zero.
 fn stray_bare(bytes: &[u8]) -> bool
-    requires { length bytes.now ≡ recordLength }
-    ensures { result ≡ stray tickKind bytes.now }
+    requires { length bytes.now ≡ record_length }
+    ensures { result ≡ stray tick_kind bytes.now }
 {
     let head = spelling::four(0, bytes[1], bytes[2], bytes[3]);
     let fourth = number32(bytes, 12);
@@ -324,8 +324,8 @@ fn stray_bare(bytes: &[u8]) -> bool
 // The bitwise or of the words of four bytes that must be zero in every kind but a burst: all but the first and the fourth.
 // It is zero exactly if each of them is.
 fn other_words(bytes: &[u8]) -> u32
-    requires { length bytes.now ≡ recordLength }
-    ensures { result ≡ (let word : ℕ → ℕ = λ i. spelt (bytesFrom bytes.now i 3) in bit_or (bit_or (bit_or (bit_or (bit_or (word 4) (word 8)) (word 16)) (word 20)) (word 24)) (word 28)) }
+    requires { length bytes.now ≡ record_length }
+    ensures { result ≡ (let word : ℕ → ℕ = λ i. spelt (bytes_from bytes.now i 3) in bit_or (bit_or (bit_or (bit_or (bit_or (word 4) (word 8)) (word 16)) (word 20)) (word 24)) (word 28)) }
 {
     number32(bytes, 4)
         | number32(bytes, 8)
@@ -338,7 +338,7 @@ fn other_words(bytes: &[u8]) -> u32
 // The number that two bytes spell.
 fn number16(bytes: &[u8], i: usize) -> u16
     requires { i + 2 ≤ length bytes.now }
-    ensures { result ≡ spelt (bytesFrom bytes.now i 1) }
+    ensures { result ≡ spelt (bytes_from bytes.now i 1) }
 {
     spelling::two(bytes[i], bytes[i + 1])
 }
@@ -346,7 +346,7 @@ fn number16(bytes: &[u8], i: usize) -> u16
 // The number that four bytes spell.
 fn number32(bytes: &[u8], i: usize) -> u32
     requires { i + 4 ≤ length bytes.now }
-    ensures { result ≡ spelt (bytesFrom bytes.now i 3) }
+    ensures { result ≡ spelt (bytes_from bytes.now i 3) }
 {
     spelling::four(bytes[i], bytes[i + 1], bytes[i + 2], bytes[i + 3])
 }

@@ -1,5 +1,5 @@
 -- Document 01, 'Commands', on whole repeaters: what Gets give one after the other, and what Sets come to. proofs/Commands.antt computes every row.
---   answersTo r queries == the bytes that Gets give, one after the other
+--   answers_to r queries == the bytes that Gets give, one after the other
 --   Asked, asked   == a row: inputs from power-up, Gets, and their bytes; what the definitions make of it
 --   reporting      == inputs after which B, S, L, the bit of TP1, M and the links of TP0 to TP2 are one, and every port is connected
 --   gets           == the Gets
@@ -13,14 +13,14 @@ use Rattle.history.specs.History.{connected, partitioned}
 use Rattle.burst.specs.Scenes.{flagged}
 use Rattle.repeater.specs.declared.Repeater.{Repeater}
 use Rattle.repeater.specs.declared.Got.{Got}
-use Rattle.repeater.specs.Reset.{powerUp}
-use Rattle.repeater.specs.Repeater.{gotOf}
-use Rattle.repeater.specs.Events.{Input, burst, setting, query, reset, afterInputs}
-use Rattle.repeater.specs.Sheet.{tick, pulse, active, passing, auiParted, Row, row}
+use Rattle.repeater.specs.Reset.{power_up}
+use Rattle.repeater.specs.Repeater.{got_of}
+use Rattle.repeater.specs.Events.{Input, burst, setting, query, reset, after_inputs}
+use Rattle.repeater.specs.Sheet.{tick, pulse, active, passing, aui_parted, Row, row}
 
-abbrev pub answersTo : Repeater → List Query → List ℕ
-answersTo r [] = []
-answersTo r (q ∷ queries) = let got : Got = gotOf q r in got.value ∷ answersTo got.repeater queries
+abbrev pub answers_to : Repeater → List Query → List ℕ
+answers_to r [] = []
+answers_to r (q ∷ queries) = let got : Got = got_of q r in got.value ∷ answers_to got.repeater queries
 
 pub record Asked : Type 0 where
   pub inputs : List Input
@@ -31,7 +31,7 @@ abbrev pub ask : List Input → List Query → List ℕ → Asked
 ask inputs queries bytes = record { inputs = inputs; queries = queries; bytes = bytes }
 
 abbrev pub asked : Asked → List ℕ
-asked w = answersTo (afterInputs powerUp w.inputs) w.queries
+asked w = answers_to (after_inputs power_up w.inputs) w.queries
 
 -- a burst: mask, then the flags of rate error, loopback missing and SQE Test, and its duration
 abbrev pub heard : ℕ → Bool → Bool → Bool → ℕ → Input
@@ -85,23 +85,23 @@ gets =
 -- TP0, TP1 and AUI are partitioned: their own activity connects them again, if they do not go by the alternate algorithm, and data that is sent to them does
 abbrev pub sets : List Row
 sets =
-    row (auiParted ++ (active 0b100000000 2000 0 ∷ [])) 8 (connected 0) true
-    ∷ row (setting AlternateAui ∷ auiParted ++ (active 0b100000000 2000 0 ∷ [])) 8 partitioned true
-    ∷ row (setting AlternateAui ∷ auiParted ++ (active 0b000000100 2000 0 ∷ [])) 8 (connected 0) true
-    ∷ row (setting AlternateAui ∷ auiParted ++ (active 0b000000001 2000 0 ∷ [])) 0 (connected 0) true
-    ∷ row (setting AlternateTp ∷ auiParted ++ (active 0b000000001 2000 0 ∷ [])) 0 partitioned true
-    ∷ row (setting AlternateTp ∷ auiParted ++ (active 0b000000100 2000 0 ∷ [])) 0 (connected 0) true
-    ∷ row (setting AlternateTp ∷ auiParted ++ (active 0b100000000 2000 0 ∷ [])) 8 (connected 0) true
+    row (aui_parted ++ (active 0b100000000 2000 0 ∷ [])) 8 (connected 0) true
+    ∷ row (setting AlternateAui ∷ aui_parted ++ (active 0b100000000 2000 0 ∷ [])) 8 partitioned true
+    ∷ row (setting AlternateAui ∷ aui_parted ++ (active 0b000000100 2000 0 ∷ [])) 8 (connected 0) true
+    ∷ row (setting AlternateAui ∷ aui_parted ++ (active 0b000000001 2000 0 ∷ [])) 0 (connected 0) true
+    ∷ row (setting AlternateTp ∷ aui_parted ++ (active 0b000000001 2000 0 ∷ [])) 0 partitioned true
+    ∷ row (setting AlternateTp ∷ aui_parted ++ (active 0b000000100 2000 0 ∷ [])) 0 (connected 0) true
+    ∷ row (setting AlternateTp ∷ aui_parted ++ (active 0b100000000 2000 0 ∷ [])) 8 (connected 0) true
     -- both, in either order, and a reset, which brings the standard ones back
-    ∷ row (setting AlternateAui ∷ setting AlternateTp ∷ auiParted ++ (active 0b100000001 2000 0 ∷ [])) 8 partitioned true
-    ∷ row (setting AlternateTp ∷ setting AlternateAui ∷ auiParted ++ (active 0b000000001 2000 0 ∷ [])) 0 partitioned true
-    ∷ row (setting AlternateAui ∷ reset ∷ auiParted ++ (active 0b100000000 2000 0 ∷ [])) 8 (connected 0) true
-    ∷ row (setting AlternateTp ∷ reset ∷ auiParted ++ (active 0b000000001 2000 0 ∷ [])) 0 (connected 0) true
+    ∷ row (setting AlternateAui ∷ setting AlternateTp ∷ aui_parted ++ (active 0b100000001 2000 0 ∷ [])) 8 partitioned true
+    ∷ row (setting AlternateTp ∷ setting AlternateAui ∷ aui_parted ++ (active 0b000000001 2000 0 ∷ [])) 0 partitioned true
+    ∷ row (setting AlternateAui ∷ reset ∷ aui_parted ++ (active 0b100000000 2000 0 ∷ [])) 8 (connected 0) true
+    ∷ row (setting AlternateTp ∷ reset ∷ aui_parted ++ (active 0b000000001 2000 0 ∷ [])) 0 (connected 0) true
     -- disabling is for one port: AUI, TP1
-    ∷ row (auiParted ++ (setting DisableAui ∷ [])) 8 (connected 0) true
-    ∷ row (auiParted ++ (setting DisableAui ∷ [])) 0 partitioned true
-    ∷ row (auiParted ++ (setting (DisableTp 1) ∷ [])) 1 (connected 0) true
-    ∷ row (auiParted ++ (setting (DisableTp 1) ∷ [])) 0 partitioned true
+    ∷ row (aui_parted ++ (setting DisableAui ∷ [])) 8 (connected 0) true
+    ∷ row (aui_parted ++ (setting DisableAui ∷ [])) 0 partitioned true
+    ∷ row (aui_parted ++ (setting (DisableTp 1) ∷ [])) 1 (connected 0) true
+    ∷ row (aui_parted ++ (setting (DisableTp 1) ∷ [])) 0 partitioned true
     -- a disabled port is heard no more, and an enabled one is
     ∷ row (setting DisableAui ∷ signal 1025 ∷ []) 8 (connected 0) true
     ∷ row (setting DisableAui ∷ setting EnableAui ∷ signal 1025 ∷ []) 8 partitioned true
@@ -112,6 +112,6 @@ sets =
     ∷ row (setting (LinkTestOff 7) ∷ setting (LinkTestOn 6) ∷ replicate 100 tick) 7 (connected 0) true
     ∷ row (replicate 4 (pulse 0b10000000) ++ (setting (DisableTp 7) ∷ setting (EnableTp 7) ∷ [])) 7 (connected 0) false
     -- reset: partition and link
-    ∷ row (auiParted ++ (reset ∷ [])) 0 (connected 0) false
-    ∷ row (auiParted ++ (reset ∷ [])) 8 (connected 0) true
+    ∷ row (aui_parted ++ (reset ∷ [])) 0 (connected 0) false
+    ∷ row (aui_parted ++ (reset ∷ [])) 8 (connected 0) true
     ∷ []

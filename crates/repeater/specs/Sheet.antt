@@ -2,7 +2,7 @@
 -- from power-up, a port, and how that port is to stand after them: connected with a count or partitioned, and whether its link passes.
 -- proofs/Sheet.antt computes every row.
 --   pulse m, tick == link pulses, and a tick, as inputs
---   active m d x  == a burst (activityOf of burst/specs/Scenes) as an input: mask, duration and length of the collision, with neither flag
+--   active m d x  == a burst (activity_of of burst/specs/Scenes) as an input: mask, duration and length of the collision, with neither flag
 --   mistimed m d  == one with rate error and no collision
 --   passing       == four link pulses: the links of TP0, TP1 and TP2 pass
 --   Row, found    == a row of a table; how its port stands
@@ -22,15 +22,15 @@ use Rattle.burst.specs.declared.Activity.{Activity}
 use Rattle.burst.specs.declared.Word.{Word}
 use Rattle.burst.specs.declared.Word.TheVariants.{Nil, Rep, Jam}
 use Rattle.burst.specs.declared.Effect.{Effect}
-use Rattle.burst.specs.Scenes.{activityOf}
+use Rattle.burst.specs.Scenes.{activity_of}
 use Rattle.management.specs.declared.Setting.TheVariants.{AlternateTp, DisableAui, DisableTp, EnableTp, LinkTestOff, LinkTestOn}
 use Rattle.history.specs.History.{Event, collided, clean, neither, cleared, Standing, connected, partitioned}
 use Rattle.repeater.specs.declared.Repeater.{Repeater}
-use Rattle.repeater.specs.Door.{portAt}
-use Rattle.repeater.specs.Reset.{powerUp}
+use Rattle.repeater.specs.Door.{port_at}
+use Rattle.repeater.specs.Reset.{power_up}
 use Rattle.repeater.specs.declared.Bursted.{Bursted}
-use Rattle.repeater.specs.Repeater.{burstOf, partitionedOf, linkedOf}
-use Rattle.repeater.specs.Events.{standingAt, Input, burst, quiet, setting, reset, afterInputs}
+use Rattle.repeater.specs.Repeater.{burst_of, partitioned_of, linked_of}
+use Rattle.repeater.specs.Events.{standing_at, Input, burst, quiet, setting, reset, after_inputs}
 
 abbrev pub pulse : ℕ → Input
 pulse mask = quiet (Pulse mask)
@@ -39,10 +39,10 @@ abbrev pub tick : Input
 tick = quiet Tick
 
 abbrev pub active : ℕ → ℕ → ℕ → Input
-active mask d x = burst (activityOf mask false false d x)
+active mask d x = burst (activity_of mask false false d x)
 
 abbrev pub mistimed : ℕ → ℕ → Input
-mistimed mask d = burst (activityOf mask true false d 0)
+mistimed mask d = burst (activity_of mask true false d 0)
 
 abbrev pub passing : List Input
 passing = replicate 4 (pulse 0b111)
@@ -69,8 +69,8 @@ row inputs i standing passes = record { inputs = inputs; place = i; wanted = rec
 
 abbrev pub found : Row → Seen
 found line =
-    let r : Repeater = afterInputs powerUp line.inputs in
-    record { standing = standingAt r line.place; passes = (portAt r line.place).link_pass }
+    let r : Repeater = after_inputs power_up line.inputs in
+    record { standing = standing_at r line.place; passes = (port_at r line.place).link_pass }
 
 abbrev pub sheet : List Row
 sheet =
@@ -165,31 +165,31 @@ scene inputs last word out colliding single collision transmitted = record {
   wanted = record { word = word; out = out; collided = colliding; single = single; collision = collision; transmit_collision = transmitted };
 }
 
-abbrev pub followedBy : Scene → Effect
-followedBy w = (burstOf (afterInputs powerUp w.inputs) w.last).effect
+abbrev pub followed_by : Scene → Effect
+followed_by w = (burst_of (after_inputs power_up w.inputs) w.last).effect
 
 -- TP0, TP1 and AUI are partitioned by one long collision
-abbrev pub auiParted : List Input
-auiParted = passing ++ (active 0b100000011 2000 1025 ∷ [])
+abbrev pub aui_parted : List Input
+aui_parted = passing ++ (active 0b100000011 2000 1025 ∷ [])
 
 -- T is TP0, TP1, TP2 and AUI, but for the last. In order: one heard; none, as the link of TP3 fails; two; TP3 active beside them, which is not in T; a
 -- rate error; AUI; AUI with its signal, and by the signal alone; TP0 and TP1 partitioned and active, which is no reason to jam, and TP0 beside TP2; AUI
 -- partitioned: its signal beside TP2 leaves the word, and alone it collides; AUI disabled: nothing
 abbrev pub scenes : List Scene
 scenes =
-    scene passing (activityOf 0b000000001 false false 2000 0) Rep 0b100000110 0b000000000 0 false false
-    ∷ scene passing (activityOf 0b000001000 false false 2000 0) Nil 0b000000000 0b000000000 nobody false false
-    ∷ scene passing (activityOf 0b000000011 false false 2000 300) Jam 0b100000111 0b000000011 nobody true true
-    ∷ scene passing (activityOf 0b000001011 false false 2000 300) Jam 0b100000111 0b000000011 nobody true true
-    ∷ scene passing (activityOf 0b000000001 true false 2000 0) Jam 0b100000110 0b000000000 0 false false
-    ∷ scene passing (activityOf 0b100000000 false false 2000 0) Rep 0b000000111 0b000000000 aui false false
-    ∷ scene passing (activityOf 0b100000000 false true 2000 300) Jam 0b000000111 0b100000000 aui true false
-    ∷ scene passing (activityOf 0b000000000 false true 2000 300) Jam 0b000000111 0b100000000 aui true false
-    ∷ scene parted (activityOf 0b000000011 false false 2000 300) Nil 0b000000000 0b000000000 nobody false false
-    ∷ scene parted (activityOf 0b000000101 false false 2000 300) Rep 0b100000011 0b000000001 2 false false
-    ∷ scene auiParted (activityOf 0b000000100 false true 2000 300) Rep 0b100000011 0b100000000 2 false false
-    ∷ scene auiParted (activityOf 0b000000000 false true 2000 300) Nil 0b000000000 0b100000000 nobody false false
-    ∷ scene (passing ++ (setting DisableAui ∷ [])) (activityOf 0b000000000 false true 2000 300) Nil 0b000000000 0b000000000 nobody false false
+    scene passing (activity_of 0b000000001 false false 2000 0) Rep 0b100000110 0b000000000 0 false false
+    ∷ scene passing (activity_of 0b000001000 false false 2000 0) Nil 0b000000000 0b000000000 nobody false false
+    ∷ scene passing (activity_of 0b000000011 false false 2000 300) Jam 0b100000111 0b000000011 nobody true true
+    ∷ scene passing (activity_of 0b000001011 false false 2000 300) Jam 0b100000111 0b000000011 nobody true true
+    ∷ scene passing (activity_of 0b000000001 true false 2000 0) Jam 0b100000110 0b000000000 0 false false
+    ∷ scene passing (activity_of 0b100000000 false false 2000 0) Rep 0b000000111 0b000000000 aui false false
+    ∷ scene passing (activity_of 0b100000000 false true 2000 300) Jam 0b000000111 0b100000000 aui true false
+    ∷ scene passing (activity_of 0b000000000 false true 2000 300) Jam 0b000000111 0b100000000 aui true false
+    ∷ scene parted (activity_of 0b000000011 false false 2000 300) Nil 0b000000000 0b000000000 nobody false false
+    ∷ scene parted (activity_of 0b000000101 false false 2000 300) Rep 0b100000011 0b000000001 2 false false
+    ∷ scene aui_parted (activity_of 0b000000100 false true 2000 300) Rep 0b100000011 0b100000000 2 false false
+    ∷ scene aui_parted (activity_of 0b000000000 false true 2000 300) Nil 0b000000000 0b100000000 nobody false false
+    ∷ scene (passing ++ (setting DisableAui ∷ [])) (activity_of 0b000000000 false true 2000 300) Nil 0b000000000 0b000000000 nobody false false
     ∷ []
 
 pub record Order : Type 0 where
@@ -202,20 +202,20 @@ order inputs last t h linked parts = record { inputs = inputs; last = last; want
 
 abbrev pub ordered : Order → List ℕ
 ordered w =
-    let b : Bursted = burstOf (afterInputs powerUp w.inputs) w.last in
-    b.hearing.t ∷ b.hearing.h ∷ linkedOf b.repeater ∷ partitionedOf b.repeater ∷ []
+    let b : Bursted = burst_of (after_inputs power_up w.inputs) w.last in
+    b.hearing.t ∷ b.hearing.h ∷ linked_of b.repeater ∷ partitioned_of b.repeater ∷ []
 
 -- TP3 is active while its link fails: that burst brings the link and does not hear TP3, and the next one does. TP0 and TP1 are heard in the collision that
 -- partitions them. Partitioned and active together they are not heard in the burst that connects them again; TP2 alone connects both; TP1 beside TP2 collides,
 -- and stays partitioned
 abbrev pub orders : List Order
 orders =
-    order passing (activityOf 0b000001000 false false 2000 0) 0b100000111 0b000000000 0b00001111 0b000000000
-    ∷ order (passing ++ (active 0b000001000 2000 0 ∷ [])) (activityOf 0b000001000 false false 2000 0) 0b100001111 0b000001000 0b00001111 0b000000000
-    ∷ order passing (activityOf 0b000000011 false false 2000 1025) 0b100000111 0b000000011 0b00000111 0b000000011
-    ∷ order parted (activityOf 0b000000011 false false 2000 1025) 0b100000111 0b000000000 0b00000111 0b000000000
-    ∷ order parted (activityOf 0b000000100 false false 2000 0) 0b100000111 0b000000100 0b00000111 0b000000000
-    ∷ order parted (activityOf 0b000000110 false false 2000 300) 0b100000111 0b000000100 0b00000111 0b000000010
+    order passing (activity_of 0b000001000 false false 2000 0) 0b100000111 0b000000000 0b00001111 0b000000000
+    ∷ order (passing ++ (active 0b000001000 2000 0 ∷ [])) (activity_of 0b000001000 false false 2000 0) 0b100001111 0b000001000 0b00001111 0b000000000
+    ∷ order passing (activity_of 0b000000011 false false 2000 1025) 0b100000111 0b000000011 0b00000111 0b000000011
+    ∷ order parted (activity_of 0b000000011 false false 2000 1025) 0b100000111 0b000000000 0b00000111 0b000000000
+    ∷ order parted (activity_of 0b000000100 false false 2000 0) 0b100000111 0b000000100 0b00000111 0b000000000
+    ∷ order parted (activity_of 0b000000110 false false 2000 300) 0b100000111 0b000000100 0b00000111 0b000000010
     ∷ []
 
 -- one input of each kind that matters to a port's history, and what each is to TP0: after the link pulses it collides, is heard alone for 512 bit times

@@ -3,11 +3,11 @@
 --   Sound r        == nine ports, each of them in a state that it can come to
 -- Assumes nothing.
 use Rattle.std.specs.Prelude.{ℕ, ◌<◌, ◌≡◌}
-use Rattle.ports.specs.Sets.{portCount}
+use Rattle.ports.specs.Sets.{port_count}
 use Rattle.port.specs.Sound.{SoundPort}
 use Rattle.repeater.specs.declared.Repeater.{Repeater}
-use Rattle.repeater.specs.Door.{places_of, portAt}
+use Rattle.repeater.specs.Door.{places_of, port_at}
 
 pub record Sound (r : Repeater) : Type 0 where
-  pub nine : places_of r ≡ portCount
-  pub port : (i : ℕ) → i < portCount → SoundPort i (portAt r i)
+  pub nine : places_of r ≡ port_count
+  pub port : (i : ℕ) → i < port_count → SoundPort i (port_at r i)

@@ -1,16 +1,16 @@
 // The repeater chip, an IMR+ (Am79C981): its nine ports with their algorithms, and its status. Here stands what bursts, link pulses, ticks and commands do
 // to it, and what may be asked of it. It knows nothing of the HIMIB, which stands above it on these contracts.
 ghost use Rattle.std.specs.Prelude.{◌*◌, ◌%◌, ◌≤◌, ◌≡◌, cond, ◌&&◌, eqb, ltb};
-ghost use Rattle.ports.specs.Sets.{aui, has, setOf};
-ghost use Rattle.port.specs.Link.{tickedAt, pulsedAt};
-ghost use Rattle.burst.specs.Clean.{lastingAt};
-ghost use Rattle.store.specs.Door.{portIn, eachIn};
-ghost use Rattle.repeater.specs.Door.{portAt, put_at, eachPort};
-ghost use Rattle.repeater.specs.Reset.{powerUp};
-ghost use Rattle.repeater.specs.Hearing.{transmits, listens, hearingOf};
-ghost use Rattle.repeater.specs.Answers.{bit, auiByte, answer_of};
-ghost use Rattle.repeater.specs.Repeater.{quieted, portAfter, followed, burstOf, changedAt, changedTp, set_to, gotOf};
-ghost use Rattle.repeater.specs.Repeater.{thoseOf, partitionedOf, linkedOf, enabledOf};
+ghost use Rattle.ports.specs.Sets.{aui, has, set_of};
+ghost use Rattle.port.specs.Link.{ticked_at, pulsed_at};
+ghost use Rattle.burst.specs.Clean.{lasting_at};
+ghost use Rattle.store.specs.Door.{port_in, each_in};
+ghost use Rattle.repeater.specs.Door.{port_at, put_at, each_port};
+ghost use Rattle.repeater.specs.Reset.{power_up};
+ghost use Rattle.repeater.specs.Hearing.{transmits, listens, hearing_of};
+ghost use Rattle.repeater.specs.Answers.{bit, aui_byte, answer_of};
+ghost use Rattle.repeater.specs.Repeater.{quieted, port_after, followed, burst_of, changed_at, changed_tp, set_to, got_of};
+ghost use Rattle.repeater.specs.Repeater.{those_of, partitioned_of, linked_of, enabled_of};
 
 use burst::{Activity, Bus, Effect, Hearing};
 use management::{Query, Setting, Status};
@@ -54,28 +54,28 @@ pub enum Those {
 
 // T.
 fn transmitting(ports: Ports) -> u16
-    ensures { result ≡ setOf (λ i. transmits i (portIn ports i)) }
+    ensures { result ≡ set_of (λ i. transmits i (port_in ports i)) }
 {
     ports.enabled() & (ports.passing() | ports::only(ports::AUI))
 }
 
 // L.
 fn listening(ports: Ports) -> u16
-    ensures { result ≡ setOf (λ i. listens i (portIn ports i)) }
+    ensures { result ≡ set_of (λ i. listens i (port_in ports i)) }
 {
     ports::less(transmitting(ports), ports.partitioned())
 }
 
 // The TP ports whose link passes.
 fn linked(ports: Ports) -> u16
-    ensures { result ≡ setOf (λ i. ltb i aui && (portIn ports i).link_pass) }
+    ensures { result ≡ set_of (λ i. ltb i aui && (port_in ports i).link_pass) }
 {
     ports.passing() & ports::TP
 }
 
 // Of two sets, by AUI's algorithm and by the TP ports', the place of AUI from the one and all others from the other.
 fn algorithms(for_aui: u16, for_tp: u16) -> u16
-    ensures { result ≡ setOf (λ i. cond (eqb i aui) (has for_aui i) (has for_tp i)) }
+    ensures { result ≡ set_of (λ i. cond (eqb i aui) (has for_aui i) (has for_tp i)) }
 {
     let aui = ports::only(ports::AUI);
     (for_aui & aui) | ports::less(for_tp, aui)
@@ -90,7 +90,7 @@ fn ports_after(
     effect: Effect,
     activity: Activity,
 ) -> Ports
-    ensures { result ≡ eachIn (portAfter for_aui for_tp hearing effect activity (setOf (lastingAt hearing effect activity))) ports }
+    ensures { result ≡ each_in (port_after for_aui for_tp hearing effect activity (set_of (lasting_at hearing effect activity))) ports }
 {
     let lasting = effect.lasting(hearing, activity);
     let back_aui = effect.reconnecting(lasting, for_aui);
@@ -112,7 +112,7 @@ impl Repeater {
 
     // The repeater at power-up. A reset leaves the same.
     pub fn power_up() -> Repeater
-        ensures { result ≡ powerUp }
+        ensures { result ≡ power_up }
     {
         let tp = Port::tp_power_up();
         let aui = Port::aui_power_up();
@@ -128,7 +128,7 @@ impl Repeater {
 
     // The port at place i; past the last, one with nothing set.
     fn port_at(self, i: usize) -> Port
-        ensures { result ≡ portAt self i }
+        ensures { result ≡ port_at self i }
     {
         let ports = self.ports;
         ports.find(i)
@@ -146,7 +146,7 @@ impl Repeater {
 
     // The mask of those ports.
     fn those(self, those: Those) -> u16
-        ensures { result ≡ thoseOf those self }
+        ensures { result ≡ those_of those self }
     {
         let ports = self.ports;
         match those {
@@ -160,7 +160,7 @@ impl Repeater {
 
     // After a tick of 1 ms.
     fn tick(mut self) -> Repeater
-        ensures { result ≡ eachPort tickedAt self }
+        ensures { result ≡ each_port ticked_at self }
     {
         let ports = self.ports;
         let next = ports.tick();
@@ -170,7 +170,7 @@ impl Repeater {
 
     // After link pulses at the mask's TP ports.
     fn pulse(mut self, mask: u16) -> Repeater
-        ensures { result ≡ eachPort (pulsedAt mask) self }
+        ensures { result ≡ each_port (pulsed_at mask) self }
     {
         let ports = self.ports;
         let next = ports.pulse(mask);
@@ -190,7 +190,7 @@ impl Repeater {
 
     // The first half of a burst: what is heard of it.
     fn hear(self, activity: Activity) -> Hearing
-        ensures { result ≡ hearingOf self activity }
+        ensures { result ≡ hearing_of self activity }
     {
         let e = activity.active();
         let t = self.those(Those::Transmitting);
@@ -235,7 +235,7 @@ impl Repeater {
 
     // After a burst.
     pub fn burst(self, activity: Activity) -> Bursted
-        ensures { result ≡ burstOf self activity }
+        ensures { result ≡ burst_of self activity }
     {
         let hearing = self.hear(activity);
         self.follow(Bus::Nothing, hearing, activity)
@@ -243,7 +243,7 @@ impl Repeater {
 
     // After a change of the port at place i.
     fn change_at(self, how: Change, i: usize) -> Repeater
-        ensures { result ≡ changedAt how i self }
+        ensures { result ≡ changed_at how i self }
     {
         let p = self.port_at(i);
         let q = p.change(how);
@@ -252,7 +252,7 @@ impl Repeater {
 
     // After a change of a TP port.
     fn change_tp(self, how: Change, i: u8) -> Repeater
-        ensures { result ≡ changedTp how i self }
+        ensures { result ≡ changed_tp how i self }
     {
         let at = index(i);
         if at < ports::AUI {
@@ -285,7 +285,7 @@ impl Repeater {
 
     // PBSL0000.
     fn aui_byte(self) -> u8
-        ensures { result ≡ auiByte self }
+        ensures { result ≡ aui_byte self }
     {
         let p = self.port_at(ports::AUI);
         let status = self.status;
@@ -315,7 +315,7 @@ impl Repeater {
 
     // After a Get, with its answer.
     pub fn get(self, query: Query) -> Got
-        ensures { result ≡ gotOf query self }
+        ensures { result ≡ got_of query self }
     {
         let value = self.answer(query);
         let status = self.status;
@@ -330,21 +330,21 @@ impl Repeater {
 
     // The partitioned ports.
     pub fn partitioned(self) -> u16
-        ensures { result ≡ partitionedOf self }
+        ensures { result ≡ partitioned_of self }
     {
         self.those(Those::Partitioned)
     }
 
     // The TP ports whose link passes.
     pub fn linked(self) -> u16
-        ensures { result ≡ linkedOf self }
+        ensures { result ≡ linked_of self }
     {
         self.those(Those::Linked)
     }
 
     // The enabled ports.
     pub fn enabled(self) -> u16
-        ensures { result ≡ enabledOf self }
+        ensures { result ≡ enabled_of self }
     {
         self.those(Those::Enabled)
     }

@@ -1,7 +1,7 @@
 -- What `answer_block` and the moving of the bytes that are left come to together. Assumes nothing.
---   three-left   == a tick and three bytes more, computed
---   behind-at    == the bytes of the input behind the place at
---   nothing-lost == the whole records are answered, and the bytes behind them stand at the front
+--   three_left   == a tick and three bytes more, computed
+--   behind_at    == the bytes of the input behind the place at
+--   nothing_lost == the whole records are answered, and the bytes behind them stand at the front
 use Prim.Native.Nat.{ℕ, ◌+◌, ◌-◌, ◌≤◌, ◌<◌}
 use mathlib.Core.Path.{◌≡◌, refl, sym, ap, ◌∙◌}
 use mathlib.Core.List.{List, [], ◌∷◌, ◌++◌}
@@ -9,19 +9,19 @@ use native.Mathlib.Omega.{arith}
 use lib.Dec.{lit<}
 use lib.ListN.{length, take, drop, replicate}
 use lib.Seq.{length-take-le, take-add, drop_at}
-use Rattle.record.specs.Record.{recordLength}
+use Rattle.record.specs.Record.{record_length}
 use Rattle.answer.specs.Text.{ascii}
 use Rattle.answer.specs.Numerals.{numeral, decimal}
-use Rattle.answer.specs.Line.{said_of, tailOf, line_of}
-use Rattle.answer.specs.Put.{hasRoom, laid, afterLine, withLine}
+use Rattle.answer.specs.Line.{said_of, tail_of, line_of}
+use Rattle.answer.specs.Put.{has_room, laid, after_line, with_line}
 use Rattle.ports.specs.Each.{each}
-use Rattle.attributes.specs.Flat.{flatSize, spotsSize}
-use Rattle.himib.specs.Runs.{happening, start, allAt}
+use Rattle.attributes.specs.Flat.{flat_size, spots_size}
+use Rattle.himib.specs.Runs.{happening, start, all_at}
 use Rattle.himib.proofs.Computing.{computing}
-use Rattle.block.specs.Block.{Work, Answered, afterRecord, worked, block_of}
+use Rattle.block.specs.Block.{Work, Answered, after_record, worked, block_of}
 use Rattle.run.specs.declared.State.{State}
 use Rattle.run.specs.declared.Done.{Done}
-use Rattle.run.specs.Kept.{standing, workOf, Kept}
+use Rattle.run.specs.Kept.{standing, work_of, Kept}
 
 -- A TICK AND THREE BYTES
 
@@ -32,12 +32,12 @@ abbrev lines : List ℕ
 lines = replicate 64 46
 
 abbrev done : Work
-done = block_of (start (allAt 0)) 1 input lines
+done = block_of (start (all_at 0)) 1 input lines
 
 abbrev at_first : State
 at_first = record {
-  chip = record { core = (start (allAt 0)).chip.core; flat = record { counters = replicate flatSize 0; addresses = replicate spotsSize 0 } };
-  host = (start (allAt 0)).host;
+  chip = record { core = (start (all_at 0)).chip.core; flat = record { counters = replicate flat_size 0; addresses = replicate spots_size 0 } };
+  host = (start (all_at 0)).host;
   number = 1;
 }
 
@@ -46,34 +46,34 @@ abbrev after : State
 after = record { chip = record { core = done.point.chip.core; flat = at_first.chip.flat }; host = done.point.host; number = 2 }
 
 -- one record is taken and gets its line, and the three bytes that are left stand at the front, whatever is behind them
-three-left : Kept at_first input lines (record { state = after; left = 3; used = 5 }) (7 ∷ 8 ∷ 9 ∷ replicate 7 0) (ascii "1 ok\n" ++ replicate 59 46)
-unfolding computing each happening block_of worked afterRecord hasRoom laid afterLine withLine line_of tailOf said_of numeral decimal
-three-left = record { is = refl; kept = refl; low = lit< tt; fits = omega arith }
+three_left : Kept at_first input lines (record { state = after; left = 3; used = 5 }) (7 ∷ 8 ∷ 9 ∷ replicate 7 0) (ascii "1 ok\n" ++ replicate 59 46)
+unfolding computing each happening block_of worked after_record has_room laid after_line with_line line_of tail_of said_of numeral decimal
+three_left = record { is = refl; kept = refl; low = lit< tt; fits = omega arith }
 
 -- IN GENERAL
 
-behind-at : (buf : List ℕ) (at total : ℕ) → at ≤ total → total ≤ length buf → drop at (take total buf) ≡ take (total - at) (drop at buf)
-behind-at buf at total l u =
+behind_at : (buf : List ℕ) (at total : ℕ) → at ≤ total → total ≤ length buf → drop at (take total buf) ≡ take (total - at) (drop at buf)
+behind_at buf at total l u =
     let k : total ≡ at + (total - at) = omega arith in
     ap (λ (n : ℕ). drop at (take n buf)) k
     ∙ ap (drop at) (take-add at (total - at) buf)
     ∙ drop_at (take at buf) (take (total - at) (drop at buf)) at (length-take-le at buf (omega arith))
 
 module _ (s : State) (buf out after new : List ℕ) (total at : ℕ) (d : Done) where
-  pub nothing-lost : total ≤ length buf → length buf ≡ length out → d.left ≡ total - at
-      → Answered (standing s) s.number (take (total - 0) buf) out (workOf d at new)
+  pub nothing_lost : total ≤ length buf → length buf ≡ length out → d.left ≡ total - at
+      → Answered (standing s) s.number (take (total - 0) buf) out (work_of d at new)
       → take d.left after ≡ take d.left (drop at buf)
       → Kept s (take total buf) out d after new
-  nothing-lost u e f b m =
+  nothing_lost u e f b m =
       let z : total - 0 ≡ total = omega arith in
-      let a : Answered (standing s) s.number (take total buf) out (workOf d at new) = rw z at b in
+      let a : Answered (standing s) s.number (take total buf) out (work_of d at new) = rw z at b in
       let n : length (take total buf) ≡ total = length-take-le total buf u in
       let l : at ≤ total = rw n at a.inside in
       let k : length (take total buf) - d.left ≡ at = rw (n, f) (omega arith) in
-      let low : length (take total buf) - at < recordLength = a.all (rw n (omega arith)) in
+      let low : length (take total buf) - at < record_length = a.all (rw n (omega arith)) in
       record {
-        is = ap (λ (p : ℕ). workOf d p new) k ∙ a.is;
-        kept = m ∙ rw f (sym (behind-at buf at total l u)) ∙ ap (λ (p : ℕ). drop p (take total buf)) (sym k);
+        is = ap (λ (p : ℕ). work_of d p new) k ∙ a.is;
+        kept = m ∙ rw f (sym (behind_at buf at total l u)) ∙ ap (λ (p : ℕ). drop p (take total buf)) (sym k);
         low = rw f (rw n at low);
         fits = a.fits;
       }

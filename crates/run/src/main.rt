@@ -1,8 +1,8 @@
 // The run program: reads records from standard input, has each whole block answered, and writes the lines. Everything that matters is in the library below it.
 // An optional argument names a start file with counters, addresses and choices.
 ghost use Rattle.std.specs.Prelude.{◌+◌, ◌≤◌, ◌<◌, ◌≡◌, length, take, drop};
-ghost use Rattle.record.specs.Record.{recordLength};
-ghost use Rattle.run.specs.Kept.{bufferLength, Kept};
+ghost use Rattle.record.specs.Record.{record_length};
+ghost use Rattle.run.specs.Kept.{buffer_length, Kept};
 
 use chip::FlatChip;
 use host::Host;
@@ -53,7 +53,7 @@ fn fill(buf: &mut [u8], have: usize) -> usize
 
 // The last piece, where there is one that is not whole: it is a record too.
 fn finish(number: u64, piece: &[u8], out: &mut [u8])
-    requires { length out.old ≡ bufferLength }
+    requires { length out.old ≡ buffer_length }
 {
     if piece.len() == 0 {
         return;
@@ -67,8 +67,8 @@ fn finish(number: u64, piece: &[u8], out: &mut [u8])
 // Answers the whole records among the buffer's first bytes, and moves what is left of these bytes to the front.
 fn work(state: State, total: usize, buf: &mut [u8], out: &mut [u8]) -> Done
     requires total_in_bounds { total ≤ length buf.old }
-    requires buf_len { length buf.old ≡ bufferLength }
-    requires out_len { length out.old ≡ bufferLength }
+    requires buf_len { length buf.old ≡ buffer_length }
+    requires out_len { length out.old ≡ buffer_length }
     ensures { Kept state (take total buf.old) out.old result buf.new out.new }
 {
     let chip = state.chip;
@@ -108,10 +108,10 @@ fn work(state: State, total: usize, buf: &mut [u8], out: &mut [u8]) -> Done
 
 // One reading, its answers and one writing. The end of the input ends it, and so does an output that is closed.
 fn one_turn(state: State, have: usize, buf: &mut [u8], out: &mut [u8]) -> Turn
-    requires have_lt_record_length { have < recordLength }
-    requires buf_len { length buf.old ≡ bufferLength }
-    requires out_len { length out.old ≡ bufferLength }
-    ensures { result.have < recordLength }
+    requires have_lt_record_length { have < record_length }
+    requires buf_len { length buf.old ≡ buffer_length }
+    requires out_len { length out.old ≡ buffer_length }
+    ensures { result.have < record_length }
 {
     let total = fill(buf, have);
     if total == have {
@@ -135,8 +135,8 @@ fn one_turn(state: State, have: usize, buf: &mut [u8], out: &mut [u8]) -> Turn
 
 // A proved loop has to end, so the readings are counted down from a number that no run uses up.
 fn pump(state: State, buf: &mut [u8], out: &mut [u8])
-    requires buf_len { length buf.old ≡ bufferLength }
-    requires out_len { length out.old ≡ bufferLength }
+    requires buf_len { length buf.old ≡ buffer_length }
+    requires out_len { length out.old ≡ buffer_length }
 {
     let mut turns = u64::MAX;
     let mut s = state;

@@ -1,6 +1,6 @@
 -- Document 01, 'Reset and power-up': one start file, and a place of each kind in it. proofs/Sheet.antt computes every row.
---   countersOf i r n == the bytes of n counters of port i from register R on: each is spelt by R, i, 3 and 4
---   portsOf i n rest == the bytes of n ports from port i on, the rest behind them: a port's address is 10:20:30:40:50 and its own place
+--   counters_of i r n == the bytes of n counters of port i from register R on: each is spelt by R, i, 3 and 4
+--   ports_of i n rest == the bytes of n ports from port i on, the rest behind them: a port's address is 10:20:30:40:50 and its own place
 --   file             == a start file of nine such ports; Transmit Collisions is spelt by 1 to 4 and Total Octets by 5 to 8
 --   up               == the chip that it describes
 --   Choice, choices  == what may stand behind such a file, and what comes of it: whether the file fits, the limit that it asks for, the number that
@@ -9,21 +9,21 @@
 use Rattle.std.specs.Prelude.{ℕ, zero, suc, Bool, true, false, List, [], ◌∷◌, ◌++◌}
 use Rattle.chip.specs.declared.Chip.{Chip}
 use Rattle.start.specs.declared.Started.{Started}
-use Rattle.start.specs.Start.{startedOf}
+use Rattle.start.specs.Start.{started_of}
 
-abbrev pub countersOf : ℕ → ℕ → ℕ → List ℕ
-countersOf i r zero = []
-countersOf i r (suc n) = r ∷ i ∷ 3 ∷ 4 ∷ countersOf i (suc r) n
+abbrev pub counters_of : ℕ → ℕ → ℕ → List ℕ
+counters_of i r zero = []
+counters_of i r (suc n) = r ∷ i ∷ 3 ∷ 4 ∷ counters_of i (suc r) n
 
-abbrev pub portsOf : ℕ → ℕ → List ℕ → List ℕ
-portsOf i zero rest = rest
-portsOf i (suc n) rest = countersOf i 0 13 ++ (0x10 ∷ 0x20 ∷ 0x30 ∷ 0x40 ∷ 0x50 ∷ i ∷ portsOf (suc i) n rest)
+abbrev pub ports_of : ℕ → ℕ → List ℕ → List ℕ
+ports_of i zero rest = rest
+ports_of i (suc n) rest = counters_of i 0 13 ++ (0x10 ∷ 0x20 ∷ 0x30 ∷ 0x40 ∷ 0x50 ∷ i ∷ ports_of (suc i) n rest)
 
 abbrev pub file : List ℕ
-file = portsOf 0 9 (1 ∷ 2 ∷ 3 ∷ 4 ∷ 5 ∷ 6 ∷ 7 ∷ 8 ∷ [])
+file = ports_of 0 9 (1 ∷ 2 ∷ 3 ∷ 4 ∷ 5 ∷ 6 ∷ 7 ∷ 8 ∷ [])
 
 abbrev pub up : Chip
-up = (startedOf file).chip
+up = (started_of file).chip
 
 pub record Choice : Type 0 where
   pub behind : List ℕ
@@ -58,5 +58,5 @@ choices =
 
 abbrev pub made : Choice → Choice
 made c =
-    let t : Started = startedOf (portsOf 0 9 (1 ∷ 2 ∷ 3 ∷ 4 ∷ 5 ∷ 6 ∷ 7 ∷ 8 ∷ c.behind)) in
+    let t : Started = started_of (ports_of 0 9 (1 ∷ 2 ∷ 3 ∷ 4 ∷ 5 ∷ 6 ∷ 7 ∷ 8 ∷ c.behind)) in
     choice c.behind t.fits t.limit t.number t.chip.core.kept.choices.short_limit

@@ -1,12 +1,12 @@
 // The chip that a start file describes.
 ghost use Rattle.std.specs.Prelude.{◌+◌, ◌≤◌, ◌≡◌, length};
-ghost use Rattle.ports.specs.Sets.{portCount};
-ghost use Rattle.start.specs.Start.{countersSize, portSize, startSize};
-ghost use Rattle.attributes.specs.Flat.{nineIn};
-ghost use Rattle.chip.specs.Flat.{supplyOf};
-ghost use Rattle.start.specs.Start.{numberFrom, countersFrom, addressFrom, portFrom, nineUpTo, fitsIn, choicesIn, supplyIn, nothingGiven};
-ghost use Rattle.start.specs.Start.{startedWith, startedOf};
-ghost use Rattle.start.specs.Flat.{startedBy};
+ghost use Rattle.ports.specs.Sets.{port_count};
+ghost use Rattle.start.specs.Start.{counters_size, port_size, start_size};
+ghost use Rattle.attributes.specs.Flat.{nine_in};
+ghost use Rattle.chip.specs.Flat.{supply_of};
+ghost use Rattle.start.specs.Start.{number_from, counters_from, address_from, port_from, nine_up_to, fits_in, choices_in, supply_in, nothing_given};
+ghost use Rattle.start.specs.Start.{started_with, started_of};
+ghost use Rattle.start.specs.Flat.{started_by};
 
 use attributes::{Attributes, Flat};
 use chip::{Chip, Choices, FlatChip, FlatSupply, Kept};
@@ -55,14 +55,14 @@ impl Started {
 // The number in the four bytes from byte i on.
 fn number_from(s: &[u8], i: usize) -> u32
     requires { i + 4 ≤ length s.now }
-    ensures { result ≡ numberFrom s.now i }
+    ensures { result ≡ number_from s.now i }
 {
     spelling::four(s[i], s[i + 1], s[i + 2], s[i + 3])
 }
 
 fn counters_from(s: &[u8], i: usize) -> [u32; 13]
-    requires { i + countersSize ≤ length s.now }
-    ensures { result ≡ countersFrom s.now i }
+    requires { i + counters_size ≤ length s.now }
+    ensures { result ≡ counters_from s.now i }
 {
     let mut out = [0u32; 13];
     for r in 0..Attributes::COUNT {
@@ -73,7 +73,7 @@ fn counters_from(s: &[u8], i: usize) -> [u32; 13]
 
 fn address_from(s: &[u8], i: usize) -> [u8; 6]
     requires { i + 6 ≤ length s.now }
-    ensures { result ≡ addressFrom s.now i }
+    ensures { result ≡ address_from s.now i }
 {
     let mut out = [0u8; 6];
     for j in 0..6 {
@@ -84,8 +84,8 @@ fn address_from(s: &[u8], i: usize) -> [u8; 6]
 
 // One port's.
 fn port_from(s: &[u8], i: usize) -> Attributes
-    requires { i + portSize ≤ length s.now }
-    ensures { result ≡ portFrom s.now i }
+    requires { i + port_size ≤ length s.now }
+    ensures { result ≡ port_from s.now i }
 {
     let counters = counters_from(s, i);
     let address = address_from(s, i + Started::COUNTERS);
@@ -97,8 +97,8 @@ fn port_from(s: &[u8], i: usize) -> Attributes
 
 // All nine ports'.
 fn nine_in(s: &[u8]) -> Flat
-    requires { startSize ≤ length s.now }
-    ensures { nineIn result ≡ nineUpTo s.now portCount }
+    requires { start_size ≤ length s.now }
+    ensures { nine_in result ≡ nine_up_to s.now port_count }
 {
     let mut flat = Flat::zero();
     for i in 0..ports::COUNT {
@@ -111,7 +111,7 @@ fn nine_in(s: &[u8]) -> Flat
 
 // Whether the file has one of the two sizes, and is 0 where it has to be.
 fn fits_in(s: &[u8]) -> bool
-    ensures { result ≡ fitsIn s.now }
+    ensures { result ≡ fits_in s.now }
 {
     if s.len() == Started::SIZE {
         return true;
@@ -124,7 +124,7 @@ fn fits_in(s: &[u8]) -> bool
 
 // What a start file chooses, or what is usual.
 fn choices_in(s: &[u8]) -> Choices
-    ensures { result ≡ choicesIn s.now }
+    ensures { result ≡ choices_in s.now }
 {
     if s.len() == Started::CHOSEN {
         let limit = number_from(s, Started::LIMIT_FROM);
@@ -135,8 +135,8 @@ fn choices_in(s: &[u8]) -> Choices
 
 // What a start file gives at power-up.
 fn supply_in(s: &[u8]) -> FlatSupply
-    requires { startSize ≤ length s.now }
-    ensures { supplyOf result ≡ supplyIn s.now }
+    requires { start_size ≤ length s.now }
+    ensures { supply_of result ≡ supply_in s.now }
 {
     let flat = nine_in(s);
     let collisions = number_from(s, Started::COLLISIONS_FROM);
@@ -154,7 +154,7 @@ fn supply_in(s: &[u8]) -> FlatSupply
 
 // Zeros.
 fn nothing() -> FlatSupply
-    ensures { supplyOf result ≡ nothingGiven }
+    ensures { supply_of result ≡ nothing_given }
 {
     let flat = Flat::zero();
     let choices = Choices::usual();
@@ -170,7 +170,7 @@ fn nothing() -> FlatSupply
 
 // What power-up makes of it.
 fn open_with(fits: bool, given: FlatSupply) -> Opened
-    ensures { startedBy result ≡ startedWith fits (supplyOf given) }
+    ensures { started_by result ≡ started_with fits (supply_of given) }
 {
     let kept = given.kept;
     let choices = kept.choices;
@@ -186,7 +186,7 @@ fn open_with(fits: bool, given: FlatSupply) -> Opened
 
 // The chip at power-up with the counters, addresses and choices of a start file.
 pub fn start_chip(s: &[u8]) -> Opened
-    ensures { startedBy result ≡ startedOf s.now }
+    ensures { started_by result ≡ started_of s.now }
 {
     if fits_in(s) {
         let given = supply_in(s);

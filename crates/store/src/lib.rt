@@ -2,12 +2,12 @@
 // is done to many ports goes through the places of a mask, the lowest first, one row at a time.
 ghost use Rattle.std.specs.Prelude.{◌-◌, ◌^◌, ◌<◌, ◌≡◌, true, false, cond, ◌&&◌, eqb, ltb, length, get_or, set};
 ghost use Rattle.std.specs.Int.Bits.{bit_or};
-ghost use Rattle.history.specs.History.{partitionsAt, longAbove};
-ghost use Rattle.ports.specs.Sets.{portCount, has, setOf, without};
+ghost use Rattle.history.specs.History.{partitions_at, long_above};
+ghost use Rattle.ports.specs.Sets.{port_count, has, set_of, without};
 ghost use Rattle.ports.specs.Each.{each};
-ghost use Rattle.port.specs.Link.{tickedAt, pulsedAt, revivedAt};
-ghost use Rattle.store.specs.Door.{no_row, portIn, put_in, eachIn, alikeIn, metIn};
-ghost use Rattle.store.specs.Visits.{onSet, isFull, visited};
+ghost use Rattle.port.specs.Link.{ticked_at, pulsed_at, revived_at};
+ghost use Rattle.store.specs.Door.{no_row, port_in, put_in, each_in, alike_in, met_in};
+ghost use Rattle.store.specs.Visits.{on_set, is_full, visited};
 
 use port::Port;
 
@@ -61,7 +61,7 @@ pub struct Visited {
 
 // Whether a visit finds the row full.
 fn is_full(visit: Visit, row: Row) -> bool
-    ensures { result ≡ isFull visit row }
+    ensures { result ≡ is_full visit row }
 {
     match visit {
         Visit::Tick => Port::LINK_FAILS_AT - 1 <= row.idle,
@@ -75,7 +75,7 @@ fn is_full(visit: Visit, row: Row) -> bool
 
 // The row after a visit that finds it full: the numbers that filled it start over.
 fn emptied(visit: Visit, mut row: Row) -> Row
-    requires { isFull visit row ≡ true }
+    requires { is_full visit row ≡ true }
     ensures { result ≡ visited visit row }
 {
     match visit {
@@ -101,7 +101,7 @@ fn emptied(visit: Visit, mut row: Row) -> Row
 
 // The row after a visit that does not.
 fn filled(visit: Visit, mut row: Row) -> Row
-    requires { isFull visit row ≡ false }
+    requires { is_full visit row ≡ false }
     ensures { result ≡ visited visit row }
 {
     match visit {
@@ -136,8 +136,8 @@ fn filled(visit: Visit, mut row: Row) -> Row
 
 // A visit to the places of a mask, the lowest first.
 fn visit_all(rows: [Row; ports::COUNT], mask: u16, visit: Visit) -> Visited
-    requires { mask < 2 ^ portCount }
-    ensures { (result.rows ≡ each (onSet mask (visited visit)) rows) × (length rows ≡ portCount) × (result.full ≡ setOf (λ i. has mask i && isFull visit (get_or rows i no_row))) }
+    requires { mask < 2 ^ port_count }
+    ensures { (result.rows ≡ each (on_set mask (visited visit)) rows) × (length rows ≡ port_count) × (result.full ≡ set_of (λ i. has mask i && is_full visit (get_or rows i no_row))) }
 {
     let mut out = rows;
     let mut full: u16 = 0;
@@ -162,7 +162,7 @@ fn visit_all(rows: [Row; ports::COUNT], mask: u16, visit: Visit) -> Visited
 
 // The count at which a collision of x bit times partitions: any, if it is long.
 fn last_before(x: u32) -> u8
-    ensures { result ≡ cond (ltb longAbove x) 0 (partitionsAt - 1) }
+    ensures { result ≡ cond (ltb long_above x) 0 (partitions_at - 1) }
 {
     if Port::LONG_ABOVE < x {
         return 0;
@@ -172,7 +172,7 @@ fn last_before(x: u32) -> u8
 
 // A mask with port i or without it.
 fn with_bit(mask: u16, i: usize, b: bool) -> u16
-    ensures { result ≡ cond b (bit_or mask (setOf (λ j. eqb j i))) (without mask (setOf (λ j. eqb j i))) }
+    ensures { result ≡ cond b (bit_or mask (set_of (λ j. eqb j i))) (without mask (set_of (λ j. eqb j i))) }
 {
     if b {
         return mask | ports::only(i);
@@ -182,14 +182,14 @@ fn with_bit(mask: u16, i: usize, b: bool) -> u16
 
 // Whether there is a row for place i.
 fn is_place(rows: [Row; ports::COUNT], i: usize) -> bool
-    ensures { (result ≡ ltb i (length rows)) × (length rows ≡ portCount) }
+    ensures { (result ≡ ltb i (length rows)) × (length rows ≡ port_count) }
 {
     i < ports::COUNT
 }
 
 // The row of place i.
 fn row_at(rows: [Row; ports::COUNT], i: usize) -> Row
-    requires { i < portCount }
+    requires { i < port_count }
     ensures { result ≡ get_or rows i no_row }
 {
     rows[i]
@@ -197,7 +197,7 @@ fn row_at(rows: [Row; ports::COUNT], i: usize) -> Row
 
 // The rows with another at place i.
 fn with_row(rows: [Row; ports::COUNT], i: usize, row: Row) -> [Row; ports::COUNT]
-    requires { i < portCount }
+    requires { i < port_count }
     ensures { result ≡ set rows i row }
 {
     let mut out = rows;
@@ -208,7 +208,7 @@ fn with_row(rows: [Row; ports::COUNT], i: usize, row: Row) -> [Row; ports::COUNT
 impl Ports {
     // Nine ports: every TP port as one, and AUI as another.
     pub fn alike(tp: Port, last: Port) -> Ports
-        ensures { result ≡ alikeIn tp last }
+        ensures { result ≡ alike_in tp last }
     {
         let none = Row {
             idle: 0,
@@ -230,7 +230,7 @@ impl Ports {
 
     // The port at place i; past the last, one with nothing set.
     pub fn find(self, i: usize) -> Port
-        ensures { result ≡ portIn self i }
+        ensures { result ≡ port_in self i }
     {
         let rows = self.rows;
         if is_place(rows, i) {
@@ -280,7 +280,7 @@ impl Ports {
 
     // After a tick of 1 ms.
     pub fn tick(mut self) -> Ports
-        ensures { result ≡ eachIn tickedAt self }
+        ensures { result ≡ each_in ticked_at self }
     {
         let rows = self.rows;
         let ticked = visit_all(rows, self.tested & ports::TP, Visit::Tick);
@@ -292,7 +292,7 @@ impl Ports {
 
     // After link pulses at the mask's TP ports.
     pub fn pulse(mut self, mask: u16) -> Ports
-        ensures { result ≡ eachIn (pulsedAt mask) self }
+        ensures { result ≡ each_in (pulsed_at mask) self }
     {
         let rows = self.rows;
         let reached = mask & self.tested & ports::TP;
@@ -307,7 +307,7 @@ impl Ports {
 
     // After activity at the mask's TP ports.
     pub fn revive(mut self, mask: u16) -> Ports
-        ensures { result ≡ eachIn (revivedAt mask) self }
+        ensures { result ≡ each_in (revived_at mask) self }
     {
         let rows = self.rows;
         let reached = mask & self.tested & ports::TP;
@@ -320,7 +320,7 @@ impl Ports {
 
     // After a burst that was this for the ports, but for their links. Every set is taken from the ports as they were before it.
     pub fn meet(mut self, b: Meetings) -> Ports
-        ensures { result ≡ eachIn (metIn b) self }
+        ensures { result ≡ each_in (met_in b) self }
     {
         let rows = self.rows;
         let sent = b.t & ports::ALL;
@@ -342,7 +342,7 @@ impl Ports {
 
     // The enabled ports.
     pub fn enabled(self) -> u16
-        ensures { result ≡ setOf (λ i. (portIn self i).enabled) }
+        ensures { result ≡ set_of (λ i. (port_in self i).enabled) }
     {
         let rows = self.rows;
         nine(rows, self.enabled)
@@ -350,7 +350,7 @@ impl Ports {
 
     // The ports whose link passes, AUI among them.
     pub fn passing(self) -> u16
-        ensures { result ≡ setOf (λ i. (portIn self i).link_pass) }
+        ensures { result ≡ set_of (λ i. (port_in self i).link_pass) }
     {
         let rows = self.rows;
         nine(rows, self.passing)
@@ -358,7 +358,7 @@ impl Ports {
 
     // The partitioned ports.
     pub fn partitioned(self) -> u16
-        ensures { result ≡ setOf (λ i. (portIn self i).partitioned) }
+        ensures { result ≡ set_of (λ i. (port_in self i).partitioned) }
     {
         let rows = self.rows;
         nine(rows, self.partitioned)
@@ -367,7 +367,7 @@ impl Ports {
 
 // The places of a mask that have a row.
 fn nine(rows: [Row; ports::COUNT], mask: u16) -> u16
-    ensures { result ≡ setOf (λ i. ltb i (length rows) && has mask i) }
+    ensures { result ≡ set_of (λ i. ltb i (length rows) && has mask i) }
 {
     mask & ports::ALL
 }

@@ -1,12 +1,12 @@
 -- `take_all` has one outcome. Assumes nothing.
---   one-tally == the theorem
+--   one_tally == the theorem
 use mathlib.Core.Path.{◌≡◌, sym, ap, ap₂, ◌∙◌}
 use Rattle.chip.specs.declared.FlatChip.{FlatChip}
-use Rattle.chip.proofs.FlatLaws.{chip-one}
-use Rattle.tally.specs.Tally.{Tally, cameTo, chipIn, OneTally}
+use Rattle.chip.proofs.FlatLaws.{chip_one}
+use Rattle.tally.specs.Tally.{Tally, came_to, chip_in, OneTally}
 
-pub one-tally : OneTally
-one-tally p bs r s a b e d =
-    let both : cameTo r ≡ cameTo s = e ∙ sym d in
-    let chips : chipIn r ≡ chipIn s = chip-one (chipIn r) (chipIn s) a b (ap (λ (w : Tally). w.point.chip) both) in
+pub one_tally : OneTally
+one_tally p bs r s a b e d =
+    let both : came_to r ≡ came_to s = e ∙ sym d in
+    let chips : chip_in r ≡ chip_in s = chip_one (chip_in r) (chip_in s) a b (ap (λ (w : Tally). w.point.chip) both) in
     ap₂ (λ (c : FlatChip) (w : Tally). record { core = c.core; flat = c.flat; host = w.point.host; refused = w.refused }) chips both

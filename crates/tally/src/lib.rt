@@ -1,6 +1,6 @@
 // All records of a stretch of input taken, for whoever asks what they leave and not what they are answered with.
 ghost use Rattle.std.specs.Prelude.{◌≤◌, ◌≡◌};
-ghost use Rattle.tally.specs.Tally.{end_of, refusal, cameTo, standing, tally_of};
+ghost use Rattle.tally.specs.Tally.{end_of, refusal, came_to, standing, tally_of};
 
 use answer::Answer;
 use attributes::Flat;
@@ -49,7 +49,7 @@ pub fn take_all(
     h: Host,
     input: &[u8],
 ) -> Tallied
-    ensures { cameTo result ≡ tally_of (standing core0 counters0 addresses0 h) input.now }
+    ensures { came_to result ≡ tally_of (standing core0 counters0 addresses0 h) input.now }
 {
     let mut core = core0;
     let mut counters = counters0;

@@ -2,7 +2,7 @@
 // program takes it, and the optional argument is the same start file.
 ghost use Rattle.std.specs.Prelude.{◌≡◌, ◌+◌, ◌≤◌, length};
 ghost use Rattle.telling.specs.Telling.{longest};
-ghost use Rattle.tell.specs.Taken.{inputLength, outputLength, Taken};
+ghost use Rattle.tell.specs.Taken.{input_length, output_length, Taken};
 
 use chip::FlatChip;
 use host::Host;
@@ -54,8 +54,8 @@ fn take_one(state: State, piece: &[u8], out: &mut [u8], used: usize) -> Done
 // Takes the records among the buffer's first bytes, one after the other. A piece at their end that is not whole is a record too.
 fn take_all(state: State, total: usize, buf: &[u8], out: &mut [u8]) -> Done
     requires total_in_bounds { total ≤ length buf.now }
-    requires buf_len { length buf.now ≡ inputLength }
-    requires out_len { length out.old ≡ outputLength }
+    requires buf_len { length buf.now ≡ input_length }
+    requires out_len { length out.old ≡ output_length }
     ensures { result.used ≤ length out.new }
 {
     let mut s = state;
@@ -80,7 +80,7 @@ fn take_all(state: State, total: usize, buf: &[u8], out: &mut [u8]) -> Done
 
 // Reads once, and a record that is cut to its end. A piece that is not whole is then the last of the input.
 fn fill(buf: &mut [u8]) -> usize
-    requires { length buf.old ≡ inputLength }
+    requires { length buf.old ≡ input_length }
     ensures { result ≤ length buf.new }
 {
     let got = io::count(libc::read(0, buf), buf);
@@ -96,8 +96,8 @@ fn fill(buf: &mut [u8]) -> usize
 
 // One reading, its lines and one writing. The end of the input ends the run, and so does an output that is closed.
 fn one_turn(state: State, buf: &mut [u8], out: &mut [u8]) -> Turn
-    requires buf_len { length buf.old ≡ inputLength }
-    requires out_len { length out.old ≡ outputLength }
+    requires buf_len { length buf.old ≡ input_length }
+    requires out_len { length out.old ≡ output_length }
 {
     let total = fill(buf);
     if total == 0 {
@@ -118,8 +118,8 @@ fn one_turn(state: State, buf: &mut [u8], out: &mut [u8]) -> Turn
 
 // A proved loop has to end, so the readings are counted down from a number that no run uses up.
 fn pump(state: State, buf: &mut [u8], out: &mut [u8])
-    requires buf_len { length buf.old ≡ inputLength }
-    requires out_len { length out.old ≡ outputLength }
+    requires buf_len { length buf.old ≡ input_length }
+    requires out_len { length out.old ≡ output_length }
 {
     let mut turns = u64::MAX;
     let mut s = state;

@@ -1,12 +1,12 @@
 -- Laws that the functions' proofs cite. Assumes nothing.
---   both-same                == a list is the same where its first is and the rest is
---   spelt-append, spelt-more == the words of a longer list
---   put-over                 == bytes that are put over the last byte of others
---   line-put                 == what `put_line` does with room, but for the newline
---   wrote-all, wrote-past, wrote-short == what `put_told` shows with room and without
+--   both_same                == a list is the same where its first is and the rest is
+--   spelt_append, spelt_more == the words of a longer list
+--   put_over                 == bytes that are put over the last byte of others
+--   line_put                 == what `put_line` does with room, but for the newline
+--   wrote_all, wrote_past, wrote_short == what `put_told` shows with room and without
 --   moved_made               == what the loop over the ports has made at its end
---   moved-any                == which counters moved does not depend on addresses; both-moved == such a word in front of a list
---   told-made                == a step, its words and its line together
+--   moved_any                == which counters moved does not depend on addresses; both_moved == such a word in front of a list
+--   told_made                == a step, its words and its line together
 use Prim.Native.Nat.{ℕ, zero, suc, ◌+◌, ◌-◌, ◌≤◌, ◌<◌}
 use mathlib.Core.Path.{◌≡◌, refl, sym, ap, ap₂, subst, ◌∙◌}
 use mathlib.Core.Bool.{Bool, true, false}
@@ -15,58 +15,58 @@ use native.Mathlib.Omega.{arith}
 use borrow.Author.Tests.{le-leb, lt-leb}
 use lib.ListN.{length, length-append, get_or, set, take}
 use lib.Seq.{sets, sets-eq, set-set, take-suc}
-use Rattle.ports.specs.Sets.{portCount, gather}
-use Rattle.ports.proofs.Sets.{gatherFrom, from_all, gather-same}
+use Rattle.ports.specs.Sets.{port_count, gather}
+use Rattle.ports.proofs.Sets.{gather_from, from_all, gather_same}
 use Rattle.host.specs.declared.Host.{Host}
 use Rattle.answer.specs.declared.Answer.{Answer}
 use Rattle.answer.specs.Numerals.{decimal, hex}
-use Rattle.answer.specs.Line.{space, newline, said_of, tailOf, line_of}
-use Rattle.answer.specs.Put.{Put, WrittenLine, hasRoom, laid, withLine}
+use Rattle.answer.specs.Line.{space, newline, said_of, tail_of, line_of}
+use Rattle.answer.specs.Put.{Put, WrittenLine, has_room, laid, with_line}
 use Rattle.answer.proofs.Pieces.{put_then, put_as}
-use Rattle.answer.proofs.Lines.{next_place}
-use Rattle.answer.proofs.Lengths.{line-length-ge}
+use Rattle.answer.proofs.Lines.{next_place_lem}
+use Rattle.answer.proofs.Lengths.{line_length_ge}
 use Rattle.answer.proofs.Room as rooms
-use Rattle.attributes.specs.Nine.{counterOf}
-use Rattle.attributes.specs.Flat.{nineOf}
-use Rattle.attributes.proofs.FlatLaws.{counter-any}
+use Rattle.attributes.specs.Nine.{counter_of}
+use Rattle.attributes.specs.Flat.{nine_of}
+use Rattle.attributes.proofs.FlatLaws.{counter_any}
 use Rattle.chip.specs.declared.FlatChip.{FlatChip}
-use Rattle.chip.specs.Flat.{chipOf}
+use Rattle.chip.specs.Flat.{chip_of}
 use Rattle.himib.specs.declared.Stepped.{Stepped}
 use Rattle.himib.specs.declared.Left.{Left}
 use Rattle.himib.specs.Step.{step_of}
-use Rattle.himib.specs.Flat.{steppedBy}
+use Rattle.himib.specs.Flat.{stepped_by}
 use Rattle.himib.specs.Runs.{happening, at}
-use Rattle.telling.specs.Telling.{spoken, spelt, toldAs, differ, movedOf, words_of, tellOf, longest, roomy, Wrote, Tells}
+use Rattle.telling.specs.Telling.{spoken, spelt, told_as, differ, moved_of, words_of, tell_of, longest, roomy, Wrote, Tells}
 
-pub both-same : {x y : ℕ} {xs ys : List ℕ} → x ≡ y → xs ≡ ys → x ∷ xs ≡ y ∷ ys
-both-same e f = rw (e, f)
+pub both_same : {x y : ℕ} {xs ys : List ℕ} → x ≡ y → xs ≡ ys → x ∷ xs ≡ y ∷ ys
+both_same e f = rw (e, f)
 
-pub spelt-append : (xs ys : List ℕ) → spelt (xs ++ ys) ≡ spelt xs ++ spelt ys
+pub spelt_append : (xs ys : List ℕ) → spelt (xs ++ ys) ≡ spelt xs ++ spelt ys
 unfolding spelt
-spelt-append [] ys = refl
-spelt-append (x ∷ xs) ys = rw (spelt-append xs ys) (sym (append_assoc (space ∷ hex 3 x) (spelt xs) (spelt ys)))
+spelt_append [] ys = refl
+spelt_append (x ∷ xs) ys = rw (spelt_append xs ys) (sym (append_assoc (space ∷ hex 3 x) (spelt xs) (spelt ys)))
 
-one-spelt : (w : ℕ) → spelt (w ∷ []) ≡ space ∷ hex 3 w
+one_spelt : (w : ℕ) → spelt (w ∷ []) ≡ space ∷ hex 3 w
 unfolding spelt
-one-spelt w = refl
+one_spelt w = refl
 
 -- a word more
-pub spelt-more : {old mid new : List ℕ} {at r s : ℕ} (ws : List ℕ) (i : ℕ) → i < length ws
+pub spelt_more : {old mid new : List ℕ} {at r s : ℕ} (ws : List ℕ) (i : ℕ) → i < length ws
     → Put old at (spelt (take i ws)) mid r → Put mid r (space ∷ hex 3 (get_or ws i 0)) new s → Put old at (spelt (take (i + 1) ws)) new s
-spelt-more {old} {mid} {new} {at} {r} {s} ws i l p q =
+spelt_more {old} {mid} {new} {at} {r} {s} ws i l p q =
     let k : i + 1 ≡ suc i = omega arith in
     let e : spelt (take (i + 1) ws) ≡ spelt (take i ws) ++ (space ∷ hex 3 (get_or ws i 0)) =
-    rw (k, take-suc ws i 0 l) (spelt-append (take i ws) (get_or ws i 0 ∷ []) ∙ ap (λ (l : List ℕ). spelt (take i ws) ++ l) (one-spelt (get_or ws i 0))) in
+    rw (k, take-suc ws i 0 l) (spelt_append (take i ws) (get_or ws i 0 ∷ []) ∙ ap (λ (l : List ℕ). spelt (take i ws) ++ l) (one_spelt (get_or ws i 0))) in
     put_as (sym e) (put_then p q)
 
-pub spelt-none : (old : List ℕ) (at : ℕ) → Put old at (spelt []) old at
+pub spelt_none : (old : List ℕ) (at : ℕ) → Put old at (spelt []) old at
 unfolding spelt
-spelt-none old at = record { next = omega arith; bytes = refl }
+spelt_none old at = record { next = omega arith; bytes = refl }
 
-pub put-over : {old mid new : List ℕ} {at r s : ℕ} (xs zs : List ℕ) (c : ℕ) → 0 < length zs
+pub put_over : {old mid new : List ℕ} {at r s : ℕ} (xs zs : List ℕ) (c : ℕ) → 0 < length zs
     → Put old at (xs ++ (c ∷ [])) mid r → Put mid (r - 1) zs new s → Put old at (xs ++ zs) new s
-put-over xs [] c l p q = absurd (omega arith)
-put-over {old} {mid} {new} {at} {r} {s} xs (d ∷ ys) c l p q =
+put_over xs [] c l p q = absurd (omega arith)
+put_over {old} {mid} {new} {at} {r} {s} xs (d ∷ ys) c l p q =
     let m : List ℕ = sets old at xs in
     let k : ℕ = at + length xs in
     let first : Put old at xs m k = record { next = refl; bytes = refl } in
@@ -77,32 +77,32 @@ put-over {old} {mid} {new} {at} {r} {s} xs (d ∷ ys) c l p q =
     record { next = q.next ∙ rw e; bytes = q.bytes ∙ rw (e, was) (ap (λ (l : List ℕ). sets l (suc k) ys) (set-set m k c d)) } in
     put_then first second
 
-pub said-line : (n : ℕ) (a : Answer) → line_of n a ≡ spoken n a ++ (newline ∷ [])
-unfolding line_of tailOf spoken
-said-line n a = sym (append_assoc (decimal n) (space ∷ said_of a) (newline ∷ []))
+pub said_line : (n : ℕ) (a : Answer) → line_of n a ≡ spoken n a ++ (newline ∷ [])
+unfolding line_of tail_of spoken
+said_line n a = sym (append_assoc (decimal n) (space ∷ said_of a) (newline ∷ []))
 
 module _ {old mid : List ℕ} {place n r : ℕ} {a : Answer} (h : place + longest ≤ length old) (w : WrittenLine old place n a mid r) where
-  line-room : hasRoom old place ≡ true
-  line-room = rooms.room old place (omega arith) (omega arith)
+  line_room : has_room old place ≡ true
+  line_room = rooms.room old place (omega arith) (omega arith)
 
-  line-next : r ≡ place + length (line_of n a)
-  line-next = next_place old mid place n r a w.next w.bytes line-room
+  line_next : r ≡ place + length (line_of n a)
+  line_next = next_place_lem old mid place n r a w.next w.bytes line_room
 
-  pub line-pos : 1 ≤ r
-  line-pos = omega (arith, line-next, line-length-ge n a)
+  pub line_pos : 1 ≤ r
+  line_pos = omega (arith, line_next, line_length_ge n a)
 
-  pub line-put : Put old place (spoken n a ++ (newline ∷ [])) mid r
-  unfolding withLine laid
-  line-put =
-      let inside : place + length (line_of n a) ≤ length old = omega (arith, line-next, w.short) in
-      let laid_out : withLine old place n a ≡ sets old place (line_of n a) = rw line-room (sym (sets-eq (line_of n a) old place inside)) in
-      let p : Put old place (line_of n a) mid r = record { next = line-next; bytes = w.bytes ∙ laid_out } in
-      put_as (said-line n a) p
+  pub line_put : Put old place (spoken n a ++ (newline ∷ [])) mid r
+  unfolding with_line laid
+  line_put =
+      let inside : place + length (line_of n a) ≤ length old = omega (arith, line_next, w.short) in
+      let laid_out : with_line old place n a ≡ sets old place (line_of n a) = rw line_room (sym (sets-eq (line_of n a) old place inside)) in
+      let p : Put old place (line_of n a) mid r = record { next = line_next; bytes = w.bytes ∙ laid_out } in
+      put_as (said_line n a) p
 
-pub wrote-all : {old new line : List ℕ} {place r : ℕ} → place ≤ length old → longest ≤ length old - place → Put old place line new r → r ≤ place + longest
+pub wrote_all : {old new line : List ℕ} {place r : ℕ} → place ≤ length old → longest ≤ length old - place → Put old place line new r → r ≤ place + longest
     → Wrote old place line new r
 unfolding laid roomy
-wrote-all {old} {new} {line} {place} {r} l h p s =
+wrote_all {old} {new} {line} {place} {r} l h p s =
     let yes : roomy old place ≡ true = simp (le-leb _ _ l, le-leb _ _ h) in
     let inside : place + length line ≤ length old = omega (arith, p.next) in
     record { next = rw yes p.next; bytes = rw yes (p.bytes ∙ sets-eq line old place inside); short = s }
@@ -110,37 +110,37 @@ wrote-all {old} {new} {line} {place} {r} l h p s =
 wrote_nothing : (old line : List ℕ) (place : ℕ) → roomy old place ≡ false → Wrote old place line old place
 wrote_nothing old line place full = record { next = rw full; bytes = rw full; short = omega arith }
 
-pub wrote-past : (old line : List ℕ) (place : ℕ) → length old < place → Wrote old place line old place
+pub wrote_past : (old line : List ℕ) (place : ℕ) → length old < place → Wrote old place line old place
 unfolding roomy
-wrote-past old line place h = wrote_nothing old line place (simp (lt-leb _ _ h))
+wrote_past old line place h = wrote_nothing old line place (simp (lt-leb _ _ h))
 
-pub wrote-short : (old line : List ℕ) (place : ℕ) → place ≤ length old → length old - place < longest → Wrote old place line old place
+pub wrote_short : (old line : List ℕ) (place : ℕ) → place ≤ length old → length old - place < longest → Wrote old place line old place
 unfolding roomy
-wrote-short old line place l h = wrote_nothing old line place (simp (le-leb _ _ l, lt-leb _ _ h))
+wrote_short old line place l h = wrote_nothing old line place (simp (le-leb _ _ l, lt-leb _ _ h))
 
-pub moved_made : (f : ℕ → Bool) (i m : ℕ) → i ≤ 0 → m ≡ gatherFrom 9 i f → m ≡ gather 9 f
+pub moved_made : (f : ℕ → Bool) (i m : ℕ) → i ≤ 0 → m ≡ gather_from 9 i f → m ≡ gather 9 f
 moved_made f zero m h e = e ∙ from_all 9 f
 moved_made f (suc i) m h e = absurd (omega arith)
 
-pub moved-any : (flat later a b : List ℕ) (r : ℕ) → movedOf (nineOf flat []) (nineOf later []) r ≡ movedOf (nineOf flat a) (nineOf later b) r
-unfolding movedOf
-moved-any flat later a b r =
-    gather-same portCount (λ i. differ (counterOf (nineOf flat []) i r) (counterOf (nineOf later []) i r))
-    (λ i. differ (counterOf (nineOf flat a) i r) (counterOf (nineOf later b) i r))
-    (λ i h. ap₂ differ (counter-any flat [] a i r) (counter-any later [] b i r))
+pub moved_any : (flat later a b : List ℕ) (r : ℕ) → moved_of (nine_of flat []) (nine_of later []) r ≡ moved_of (nine_of flat a) (nine_of later b) r
+unfolding moved_of
+moved_any flat later a b r =
+    gather_same port_count (λ i. differ (counter_of (nine_of flat []) i r) (counter_of (nine_of later []) i r))
+    (λ i. differ (counter_of (nine_of flat a) i r) (counter_of (nine_of later b) i r))
+    (λ i h. ap₂ differ (counter_any flat [] a i r) (counter_any later [] b i r))
 
-pub both-moved : (flat later a b : List ℕ) (r : ℕ) {x : ℕ} {xs ys : List ℕ} → x ≡ movedOf (nineOf flat []) (nineOf later []) r → xs ≡ ys
-    → x ∷ xs ≡ movedOf (nineOf flat a) (nineOf later b) r ∷ ys
-both-moved flat later a b r e f = both-same (e ∙ moved-any flat later a b r) f
+pub both_moved : (flat later a b : List ℕ) (r : ℕ) {x : ℕ} {xs ys : List ℕ} → x ≡ moved_of (nine_of flat []) (nine_of later []) r → xs ≡ ys
+    → x ∷ xs ≡ moved_of (nine_of flat a) (nine_of later b) r ∷ ys
+both_moved flat later a b r e f = both_same (e ∙ moved_any flat later a b r) f
 
-pub told-made : (s : FlatChip) (h : Host) (n : ℕ) (bs old new ws : List ℕ) (t : Left) (place next : ℕ) → steppedBy t ≡ step_of (chipOf s) h bs
-    → ws ≡ words_of (chipOf s) (chipOf t.chip) t.host → Wrote old place (toldAs n t.answer ws) new next
+pub told_made : (s : FlatChip) (h : Host) (n : ℕ) (bs old new ws : List ℕ) (t : Left) (place next : ℕ) → stepped_by t ≡ step_of (chip_of s) h bs
+    → ws ≡ words_of (chip_of s) (chip_of t.chip) t.host → Wrote old place (told_as n t.answer ws) new next
     → Tells s h n bs old place (record { chip = t.chip; host = t.host; next = next }) new
-unfolding happening tellOf
-told-made s h n bs old new ws t place next e f w =
+unfolding happening tell_of
+told_made s h n bs old new ws t place next e f w =
     record {
       after = ap (λ (t : Stepped). at t.chip t.host) e;
       wrote =
-          subst (λ (t : Stepped). Wrote old place (toldAs n t.answer (words_of (chipOf s) t.chip t.host)) new next) e
-          (subst (λ (ws : List ℕ). Wrote old place (toldAs n t.answer ws) new next) f w);
+          subst (λ (t : Stepped). Wrote old place (told_as n t.answer (words_of (chip_of s) t.chip t.host)) new next) e
+          (subst (λ (ws : List ℕ). Wrote old place (told_as n t.answer ws) new next) f w);
     }

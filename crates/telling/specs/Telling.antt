@@ -2,34 +2,34 @@
 -- program, and what it left, in 28 words of three hexadecimal digits. Everything that is told is what the chip shows, by the definitions of the crates below.
 --   spoken n a             == the line of the run program for record n, answered with a, but for its newline
 --   spelt ws               == a space and three hexadecimal digits for each word
---   toldAs n a ws          == a line: what is spoken, the words, a newline
---   movedOf before after r == the ports whose counter R differs between two sets of attributes
---   statusOf c             == the byte that a C read would give: interrupt and interface error
+--   told_as n a ws          == a line: what is spoken, the words, a newline
+--   moved_of before after r == the ports whose counter R differs between two sets of attributes
+--   status_of c             == the byte that a C read would give: interrupt and interface error
 --   changesIn c            == the seven change registers
---   creditsIn before after == for each of the thirteen counters the ports where it differs, and whether each of the two totals does: 1 or 0
+--   credits_in before after == for each of the thirteen counters the ports where it differs, and whether each of the two totals does: 1 or 0
 --   words_of before after h == the words: the ports that are enabled, whose link passes, that are partitioned; the change registers; the status; P and R; the
 --                             credits
---   tellOf n h             == the line of record n, to which h happened
+--   tell_of n h             == the line of record n, to which h happened
 --   Wrote                  == a line was put into a buffer
 --   Tells                  == what `tell` does
 --   OneTold                == two outcomes that `tell` allows are equal, their arrays having the size that their type says
 --   SameAnswer             == the line begins with the line of the run program, a space in the place of its newline
 -- Assumes nothing.
 use Rattle.std.specs.Prelude.{ℕ, ◌+◌, ◌-◌, ◌≤◌, ◌≡◌, Bool, cond, not, ◌&&◌, List, [], ◌∷◌, ◌++◌, eqb, leb, length, get_or, take}
-use Rattle.ports.specs.Sets.{portCount, gather}
-use Rattle.repeater.specs.Repeater.{partitionedOf, linkedOf, enabledOf}
+use Rattle.ports.specs.Sets.{port_count, gather}
+use Rattle.repeater.specs.Repeater.{partitioned_of, linked_of, enabled_of}
 use Rattle.host.specs.declared.Host.{Host}
 use Rattle.answer.specs.declared.Answer.{Answer}
 use Rattle.answer.specs.Numerals.{decimal, hex}
 use Rattle.answer.specs.Line.{space, newline, said_of, line_of}
 use Rattle.answer.specs.Put.{laid}
 use Rattle.attributes.specs.declared.Nine.{Nine}
-use Rattle.attributes.specs.Nine.{counterOf}
+use Rattle.attributes.specs.Nine.{counter_of}
 use Rattle.changes.specs.Changes.{bit7, pending}
 use Rattle.chip.specs.declared.Core.{Core}
 use Rattle.chip.specs.declared.Chip.{Chip}
 use Rattle.chip.specs.declared.FlatChip.{FlatChip}
-use Rattle.chip.specs.Flat.{chipOf, Sized}
+use Rattle.chip.specs.Flat.{chip_of, Sized}
 use Rattle.himib.specs.Runs.{Happening, at, happening}
 use Rattle.telling.specs.declared.Told.{Told}
 
@@ -42,28 +42,28 @@ unfoldable pub spelt : List ℕ → List ℕ
 spelt [] = []
 spelt (w ∷ ws) = (space ∷ hex 3 w) ++ spelt ws
 
-unfoldable pub toldAs : ℕ → Answer → List ℕ → List ℕ
-toldAs n a ws = spoken n a ++ (spelt ws ++ (newline ∷ []))
+unfoldable pub told_as : ℕ → Answer → List ℕ → List ℕ
+told_as n a ws = spoken n a ++ (spelt ws ++ (newline ∷ []))
 
 -- ---- Its words
 
 abbrev pub differ : ℕ → ℕ → Bool
 differ a b = not (eqb a b)
 
-unfoldable pub movedOf : Nine → Nine → ℕ → ℕ
-movedOf before after r = gather portCount (λ i. differ (counterOf before i r) (counterOf after i r))
+unfoldable pub moved_of : Nine → Nine → ℕ → ℕ
+moved_of before after r = gather port_count (λ i. differ (counter_of before i r) (counter_of after i r))
 
-abbrev pub statusOf : Core → ℕ
-statusOf c = bit7 (pending c.changes c.enables) + cond c.interface_error 64 0
+abbrev pub status_of : Core → ℕ
+status_of c = bit7 (pending c.changes c.enables) + cond c.interface_error 64 0
 
-abbrev pub movedTotal : ℕ → ℕ → ℕ
-movedTotal before after = cond (differ before after) 1 0
+abbrev pub moved_total : ℕ → ℕ → ℕ
+moved_total before after = cond (differ before after) 1 0
 
 unfoldable pub words_of : Chip → Chip → Host → List ℕ
 words_of before after h =
-    enabledOf after.core.repeater
-    ∷ linkedOf after.core.repeater
-    ∷ partitionedOf after.core.repeater
+    enabled_of after.core.repeater
+    ∷ linked_of after.core.repeater
+    ∷ partitioned_of after.core.repeater
     ∷ get_or after.core.changes 0 0
     ∷ get_or after.core.changes 1 0
     ∷ get_or after.core.changes 2 0
@@ -71,28 +71,28 @@ words_of before after h =
     ∷ get_or after.core.changes 4 0
     ∷ get_or after.core.changes 6 0
     ∷ get_or after.core.changes 7 0
-    ∷ statusOf after.core
+    ∷ status_of after.core
     ∷ h.page
     ∷ h.register
-    ∷ movedOf before.attributes after.attributes 0
-    ∷ movedOf before.attributes after.attributes 1
-    ∷ movedOf before.attributes after.attributes 2
-    ∷ movedOf before.attributes after.attributes 3
-    ∷ movedOf before.attributes after.attributes 4
-    ∷ movedOf before.attributes after.attributes 5
-    ∷ movedOf before.attributes after.attributes 6
-    ∷ movedOf before.attributes after.attributes 7
-    ∷ movedOf before.attributes after.attributes 8
-    ∷ movedOf before.attributes after.attributes 9
-    ∷ movedOf before.attributes after.attributes 10
-    ∷ movedOf before.attributes after.attributes 11
-    ∷ movedOf before.attributes after.attributes 12
-    ∷ movedTotal before.core.kept.transmit_collisions after.core.kept.transmit_collisions
-    ∷ movedTotal before.core.kept.total_octets after.core.kept.total_octets
+    ∷ moved_of before.attributes after.attributes 0
+    ∷ moved_of before.attributes after.attributes 1
+    ∷ moved_of before.attributes after.attributes 2
+    ∷ moved_of before.attributes after.attributes 3
+    ∷ moved_of before.attributes after.attributes 4
+    ∷ moved_of before.attributes after.attributes 5
+    ∷ moved_of before.attributes after.attributes 6
+    ∷ moved_of before.attributes after.attributes 7
+    ∷ moved_of before.attributes after.attributes 8
+    ∷ moved_of before.attributes after.attributes 9
+    ∷ moved_of before.attributes after.attributes 10
+    ∷ moved_of before.attributes after.attributes 11
+    ∷ moved_of before.attributes after.attributes 12
+    ∷ moved_total before.core.kept.transmit_collisions after.core.kept.transmit_collisions
+    ∷ moved_total before.core.kept.total_octets after.core.kept.total_octets
     ∷ []
 
-unfoldable pub tellOf : ℕ → Happening → List ℕ
-tellOf n h = toldAs n h.answer (words_of h.before.chip h.after.chip h.after.host)
+unfoldable pub tell_of : ℕ → Happening → List ℕ
+tell_of n h = told_as n h.answer (words_of h.before.chip h.after.chip h.after.host)
 
 -- ---- The line in a buffer, and what it says of the run program's
 
@@ -111,8 +111,8 @@ pub record Wrote (old : List ℕ) (at : ℕ) (line new : List ℕ) (r : ℕ) : T
   pub short : r ≤ at + longest
 
 pub record Tells (s : FlatChip) (h : Host) (n : ℕ) (bs old : List ℕ) (place : ℕ) (t : Told) (new : List ℕ) : Type 0 where
-  pub after : at (chipOf t.chip) t.host ≡ (happening (at (chipOf s) h) bs).after
-  pub wrote : Wrote old place (tellOf n (happening (at (chipOf s) h) bs)) new t.next
+  pub after : at (chip_of t.chip) t.host ≡ (happening (at (chip_of s) h) bs).after
+  pub wrote : Wrote old place (tell_of n (happening (at (chip_of s) h) bs)) new t.next
 
 abbrev pub OneTold : Type 0
 OneTold =
@@ -120,4 +120,4 @@ OneTold =
     → Tells s h n bs old place t x → Tells s h n bs old place u y → (t ≡ u) × (x ≡ y)
 
 abbrev pub SameAnswer : Type 0
-SameAnswer = (n : ℕ) (h : Happening) → take (length (line_of n h.answer) - 1) (tellOf n h) ++ (newline ∷ []) ≡ line_of n h.answer
+SameAnswer = (n : ℕ) (h : Happening) → take (length (line_of n h.answer) - 1) (tell_of n h) ++ (newline ∷ []) ≡ line_of n h.answer

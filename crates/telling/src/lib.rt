@@ -1,11 +1,11 @@
 // One record told: what it was answered with, and what it left of the chip, as a line in a buffer that the caller lends. docs/REFERENCE.md has the line.
 ghost use Rattle.std.specs.Prelude.{◌≡◌, cond, [], ◌∷◌, ◌+◌, ◌*◌, ◌≤◌, ◌<◌, length, get_or};
-ghost use Rattle.attributes.specs.Flat.{nineOf};
-ghost use Rattle.chip.specs.Flat.{chipOf};
+ghost use Rattle.attributes.specs.Flat.{nine_of};
+ghost use Rattle.chip.specs.Flat.{chip_of};
 ghost use Rattle.answer.specs.Numerals.{hex};
 ghost use Rattle.answer.specs.Line.{space};
 ghost use Rattle.answer.specs.Put.{Put};
-ghost use Rattle.telling.specs.Telling.{spelt, toldAs, differ, movedOf, statusOf, movedTotal, words_of, longest, Wrote, Tells};
+ghost use Rattle.telling.specs.Telling.{spelt, told_as, differ, moved_of, status_of, moved_total, words_of, longest, Wrote, Tells};
 
 use answer::Answer;
 use attributes::Flat;
@@ -53,7 +53,7 @@ pub fn tell(chip: FlatChip, h: Host, number: u64, bytes: &[u8], out: &mut [u8], 
 
 // The words of a record that led from one chip to another and left this host's record.
 fn words_of(before: FlatChip, after: FlatChip, h: Host) -> [u16; Told::WORDS]
-    ensures { result ≡ words_of (chipOf before) (chipOf after) h }
+    ensures { result ≡ words_of (chip_of before) (chip_of after) h }
 {
     let core = after.core;
     let repeater = core.repeater;
@@ -141,7 +141,7 @@ fn change(changes: [u8; changes::REGISTERS], register: usize) -> u16
 
 // What a C read would give.
 fn status_of(core: Core) -> u16
-    ensures { result ≡ statusOf core }
+    ensures { result ≡ status_of core }
 {
     let changes = core.changes;
     let enables = core.enables;
@@ -169,7 +169,7 @@ fn differs(before: u32, after: u32) -> bool
 
 // The same as a word.
 fn moved_total(before: u32, after: u32) -> u16
-    ensures { result ≡ movedTotal before after }
+    ensures { result ≡ moved_total before after }
 {
     if differs(before, after) { 1 } else { 0 }
 }
@@ -184,7 +184,7 @@ fn push(mask: u16, b: bool) -> u16
 
 // The ports whose counter R has moved.
 fn moved(before: &[u32; Flat::COUNTERS], after: &[u32; Flat::COUNTERS], register: usize) -> u16
-    ensures { result ≡ movedOf (nineOf before.now []) (nineOf after.now []) register }
+    ensures { result ≡ moved_of (nine_of before.now []) (nine_of after.now []) register }
 {
     let mut mask: u16 = 0;
     let mut i: usize = ports::COUNT;
@@ -207,7 +207,7 @@ fn put_told(
     answer: Answer,
     words: [u16; Told::WORDS],
 ) -> usize
-    ensures { Wrote out.old at (toldAs number answer words) out.new result }
+    ensures { Wrote out.old at (told_as number answer words) out.new result }
 {
     if at <= out.len() {
         if Told::ROOM <= out.len() - at {
@@ -226,7 +226,7 @@ fn put_whole(
     words: [u16; Told::WORDS],
 ) -> usize
     requires { at + longest ≤ length out.old }
-    ensures put { Put out.old at (toldAs number answer words) out.new result }
+    ensures put { Put out.old at (told_as number answer words) out.new result }
     ensures upper_bound { result ≤ at + longest }
 {
     let behind = answer::put_line(out, at, number, answer);

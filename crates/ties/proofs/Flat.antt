@@ -1,6 +1,6 @@
 -- One outcome each, of the functions that speak of counters and addresses as they are kept. Assumes nothing.
---   full-fits        == arrays that fit their type are there: every counter full, and no address known
---   an-address-write == what the contract of an address write allows is there, at AUI; no-neighbour == and TP7's bytes for AUI's are not
+--   full_fits        == arrays that fit their type are there: every counter full, and no address known
+--   an_address_write == what the contract of an address write allows is there, at AUI; no_neighbour == and TP7's bytes for AUI's are not
 use Prim.Native.Nat.{ℕ, zero, suc, ◌^◌, ◌<◌}
 use mathlib.Core.Path.{◌≡◌, refl, sym, ap, ap₂, ◌∙◌}
 use mathlib.Core.List.{List, [], ◌∷◌}
@@ -10,15 +10,15 @@ use Rattle.ports.specs.Each.{each}
 use Rattle.attributes.specs.declared.Nine.{Nine}
 use Rattle.attributes.specs.declared.Due.{Due}
 use Rattle.attributes.specs.Nine.{address_of}
-use Rattle.attributes.specs.Credits.{creditedAll}
-use Rattle.attributes.specs.Flat.{flatSize, spotsSize, nineOf, Fit, Readdressed}
-use Rattle.attributes.proofs.FlatLaws.{nine-one}
+use Rattle.attributes.specs.Credits.{credited_all}
+use Rattle.attributes.specs.Flat.{flat_size, spots_size, nine_of, Fit, Readdressed}
+use Rattle.attributes.proofs.FlatLaws.{nine_one}
 use Rattle.chip.specs.declared.FlatChip.{FlatChip}
 use Rattle.chip.specs.declared.Powered.{Powered}
-use Rattle.chip.proofs.FlatLaws.{chip-one}
+use Rattle.chip.proofs.FlatLaws.{chip_one}
 use Rattle.himib.specs.declared.Credited.{Credited}
 use Rattle.himib.specs.declared.Stepped.{Stepped}
-use Rattle.himib.specs.Flat.{steppedBy}
+use Rattle.himib.specs.Flat.{stepped_by}
 use Rattle.himib.proofs.Computing.{computing}
 use Rattle.start.specs.declared.Started.{Started}
 use Rattle.ties.specs.Flat.{OneFlat, OneChip, OneLeft, OneStart, OneReaddress, OneCredit, OneBurst, OneFollow}
@@ -26,78 +26,78 @@ use Rattle.ties.specs.Flat.{OneFlat, OneChip, OneLeft, OneStart, OneReaddress, O
 -- INSTANCES
 
 abbrev full : List ℕ
-full = replicate flatSize 4294967295
+full = replicate flat_size 4294967295
 
 abbrev unknown : List ℕ
-unknown = replicate spotsSize 0
+unknown = replicate spots_size 0
 
 abbrev source : List ℕ
 source = 2 ∷ 7 ∷ 6 ∷ 5 ∷ 4 ∷ 3 ∷ []
 
-low-at : (n v k : ℕ) → v < 2 ^ 32 → get_or (replicate n v) k 0 < 2 ^ 32
-low-at zero v k l = omega arith
-low-at (suc n) v zero l = l
-low-at (suc n) v (suc k) l = low-at n v k l
+low_at : (n v k : ℕ) → v < 2 ^ 32 → get_or (replicate n v) k 0 < 2 ^ 32
+low_at zero v k l = omega arith
+low_at (suc n) v zero l = l
+low_at (suc n) v (suc k) l = low_at n v k l
 
-full-fits : Fit full unknown
-full-fits = record { counters = record { long = refl; low = λ k. low-at flatSize 4294967295 k (omega arith) }; spots = refl }
+full_fits : Fit full unknown
+full_fits = record { counters = record { long = refl; low = λ k. low_at flat_size 4294967295 k (omega arith) }; spots = refl }
 
-an-address-write : Readdressed 8 source unknown (set (set (set (set (set (set unknown 48 2) 49 7) 50 6) 51 5) 52 4) 53 3)
+an_address_write : Readdressed 8 source unknown (set (set (set (set (set (set unknown 48 2) 49 7) 50 6) 51 5) 52 4) 53 3)
 unfolding computing each
-an-address-write = record { fine = refl; is = λ e flat. refl }
+an_address_write = record { fine = refl; is = λ e flat. refl }
 
-no-neighbour : Readdressed 8 source unknown (set (set (set (set (set (set unknown 42 2) 43 7) 44 6) 45 5) 46 4) 47 3) → ⊥
+no_neighbour : Readdressed 8 source unknown (set (set (set (set (set (set unknown 42 2) 43 7) 44 6) 45 5) 46 4) 47 3) → ⊥
 unfolding computing each
-no-neighbour w =
+no_neighbour w =
     let k : ◌≡◌ {A = ℕ} 0 2 = ap (λ (nine : Nine). get_or (address_of nine 8) 0 0) (w.is refl full) in
     absurd (omega (arith, k))
 
 -- THE THEOREMS
 
 -- two pairs of arrays that fit and stand for the same records
-same : (flat addresses x y : List ℕ) → Fit flat addresses → Fit x y → nineOf flat addresses ≡ nineOf x y → (flat ≡ x) × (addresses ≡ y)
-same flat addresses x y a b e = nine-one flat addresses x y a.counters.long b.counters.long a.spots b.spots e
+same : (flat addresses x y : List ℕ) → Fit flat addresses → Fit x y → nine_of flat addresses ≡ nine_of x y → (flat ≡ x) × (addresses ≡ y)
+same flat addresses x y a b e = nine_one flat addresses x y a.counters.long b.counters.long a.spots b.spots e
 
-pub one-flat : OneFlat
-one-flat nine r s a b p q =
+pub one_flat : OneFlat
+one_flat nine r s a b p q =
     let e = same r.counters r.addresses s.counters s.addresses a b (p ∙ sym q) in
     ap₂ (λ (x y : List ℕ). record { counters = x; addresses = y }) e.0 e.1
 
-pub one-chip : OneChip
-one-chip t r s a b p q =
+pub one_chip : OneChip
+one_chip t r s a b p q =
     ap₂ (λ (c : FlatChip) (w : Powered). record { number = w.number; chip = c })
-    (chip-one r.chip s.chip a b (ap (λ (w : Powered). w.chip) (p ∙ sym q))) (p ∙ sym q)
+    (chip_one r.chip s.chip a b (ap (λ (w : Powered). w.chip) (p ∙ sym q))) (p ∙ sym q)
 
 pub one_left : OneLeft
 one_left t r s a b p q =
-    let e : steppedBy r ≡ steppedBy s = p ∙ sym q in
+    let e : stepped_by r ≡ stepped_by s = p ∙ sym q in
     ap₂ (λ (c : FlatChip) (w : Stepped). record { chip = c; host = w.host; answer = w.answer })
-    (chip-one r.chip s.chip a b (ap (λ (w : Stepped). w.chip) e)) e
+    (chip_one r.chip s.chip a b (ap (λ (w : Stepped). w.chip) e)) e
 
-pub one-start : OneStart
-one-start t r s a b p q =
+pub one_start : OneStart
+one_start t r s a b p q =
     ap₂ (λ (c : FlatChip) (w : Started). record { fits = w.fits; limit = w.limit; number = w.number; chip = c })
-    (chip-one r.chip s.chip a b (ap (λ (w : Started). w.chip) (p ∙ sym q))) (p ∙ sym q)
+    (chip_one r.chip s.chip a b (ap (λ (w : Started). w.chip) (p ∙ sym q))) (p ∙ sym q)
 
 -- whatever the counters are: zeros here
-pub one-readdress : OneReaddress
-one-readdress i source addresses x y e p q =
-    (nine-one (replicate 117 0) x (replicate 117 0) y refl refl (p.fine ∙ e) (q.fine ∙ e) (p.is e (replicate 117 0) ∙ sym (q.is e (replicate 117 0)))).1
+pub one_readdress : OneReaddress
+one_readdress i source addresses x y e p q =
+    (nine_one (replicate 117 0) x (replicate 117 0) y refl refl (p.fine ∙ e) (q.fine ∙ e) (p.is e (replicate 117 0) ∙ sym (q.is e (replicate 117 0)))).1
 
-pub one-credit : OneCredit
-one-credit met b source flat addresses r s later last x y f p q =
+pub one_credit : OneCredit
+one_credit met b source flat addresses r s later last x y f p q =
     let d : r ≡ s = p.due ∙ sym q.due in
-    let e = same later last x y (p.fine f) (q.fine f) (p.is f ∙ ap (λ (z : Due). creditedAll z b source (nineOf flat addresses)) d ∙ sym (q.is f)) in
+    let e = same later last x y (p.fine f) (q.fine f) (p.is f ∙ ap (λ (z : Due). credited_all z b source (nine_of flat addresses)) d ∙ sym (q.is f)) in
     (d, e.0, e.1)
 
-pub one-burst : OneBurst
-one-burst c b source flat addresses r s later last x y f p q =
+pub one_burst_lem : OneBurst
+one_burst_lem c b source flat addresses r s later last x y f p q =
     let w = p.is f ∙ sym (q.is f) in
     let e = same later last x y (p.fine f) (q.fine f) (ap (λ (t : Credited). t.attributes) w) in
     (ap (λ (t : Credited). record { core = t.core; answer = t.answer }) w, e.0, e.1)
 
-pub one-follow : OneFollow
-one-follow c h asked source flat addresses r s later last x y f p q =
+pub one_follow : OneFollow
+one_follow c h asked source flat addresses r s later last x y f p q =
     let w = p.is f ∙ sym (q.is f) in
     let e = same later last x y (p.fine f) (q.fine f) (ap (λ (t : Stepped). t.chip.attributes) w) in
     (ap (λ (t : Stepped). record { core = t.chip.core; host = t.host; answer = t.answer }) w, e.0, e.1)

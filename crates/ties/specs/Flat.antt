@@ -12,35 +12,35 @@ use Rattle.attributes.specs.declared.Flat.{Flat}
 use Rattle.attributes.specs.declared.Nine.{Nine}
 use Rattle.attributes.specs.declared.Met.{Met}
 use Rattle.attributes.specs.declared.Due.{Due}
-use Rattle.attributes.specs.Flat.{spotsSize, nineIn, Fit, Readdressed, Credited}
+use Rattle.attributes.specs.Flat.{spots_size, nine_in, Fit, Readdressed, Credited}
 use Rattle.chip.specs.declared.Core.{Core}
 use Rattle.chip.specs.declared.Powered.{Powered}
 use Rattle.chip.specs.declared.FlatPowered.{FlatPowered}
-use Rattle.chip.specs.Flat.{poweredBy, Sized}
+use Rattle.chip.specs.Flat.{powered_by, Sized}
 use Rattle.himib.specs.declared.Spoken.{Spoken}
 use Rattle.himib.specs.declared.Followed.{Followed}
 use Rattle.himib.specs.declared.Left.{Left}
 use Rattle.himib.specs.declared.Stepped.{Stepped}
-use Rattle.himib.specs.Flat.{steppedBy, Bursts, Follows}
+use Rattle.himib.specs.Flat.{stepped_by, Bursts, Follows}
 use Rattle.start.specs.declared.Opened.{Opened}
 use Rattle.start.specs.declared.Started.{Started}
-use Rattle.start.specs.Flat.{startedBy}
+use Rattle.start.specs.Flat.{started_by}
 
 abbrev pub OneFlat : Type 0
-OneFlat = (nine : Nine) (r s : Flat) → Fit r.counters r.addresses → Fit s.counters s.addresses → nineIn r ≡ nine → nineIn s ≡ nine → r ≡ s
+OneFlat = (nine : Nine) (r s : Flat) → Fit r.counters r.addresses → Fit s.counters s.addresses → nine_in r ≡ nine → nine_in s ≡ nine → r ≡ s
 
 abbrev pub OneChip : Type 0
-OneChip = (t : Powered) (r s : FlatPowered) → Sized r.chip → Sized s.chip → poweredBy r ≡ t → poweredBy s ≡ t → r ≡ s
+OneChip = (t : Powered) (r s : FlatPowered) → Sized r.chip → Sized s.chip → powered_by r ≡ t → powered_by s ≡ t → r ≡ s
 
 abbrev pub OneLeft : Type 0
-OneLeft = (t : Stepped) (r s : Left) → Sized r.chip → Sized s.chip → steppedBy r ≡ t → steppedBy s ≡ t → r ≡ s
+OneLeft = (t : Stepped) (r s : Left) → Sized r.chip → Sized s.chip → stepped_by r ≡ t → stepped_by s ≡ t → r ≡ s
 
 abbrev pub OneStart : Type 0
-OneStart = (t : Started) (r s : Opened) → Sized r.chip → Sized s.chip → startedBy r ≡ t → startedBy s ≡ t → r ≡ s
+OneStart = (t : Started) (r s : Opened) → Sized r.chip → Sized s.chip → started_by r ≡ t → started_by s ≡ t → r ≡ s
 
 abbrev pub OneReaddress : Type 0
 OneReaddress =
-    (i : ℕ) (source addresses x y : List ℕ) → length addresses ≡ spotsSize → Readdressed i source addresses x → Readdressed i source addresses y → x ≡ y
+    (i : ℕ) (source addresses x y : List ℕ) → length addresses ≡ spots_size → Readdressed i source addresses x → Readdressed i source addresses y → x ≡ y
 
 abbrev pub OneCredit : Type 0
 OneCredit =

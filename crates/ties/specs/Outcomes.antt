@@ -17,14 +17,14 @@ use Rattle.answer.specs.declared.Answer.TheVariants.{Refused}
 use Rattle.answer.specs.Put.{WrittenLine}
 use Rattle.chip.specs.declared.Core.{Core}
 use Rattle.chip.specs.declared.FlatChip.{FlatChip}
-use Rattle.chip.specs.Flat.{chipOf, Sized}
+use Rattle.chip.specs.Flat.{chip_of, Sized}
 use Rattle.himib.specs.Step.{step_of}
-use Rattle.himib.specs.Runs.{Point, at, answersIn}
+use Rattle.himib.specs.Runs.{Point, at, answers_in}
 use Rattle.block.specs.declared.Block.{Block}
-use Rattle.block.specs.Block.{standing, cameTo, Answered, AnsweredPiece}
+use Rattle.block.specs.Block.{standing, came_to, Answered, AnsweredPiece}
 use Rattle.lent.specs.declared.Rest.{Rest}
-use Rattle.lent.specs.Lent.{together, requested, cWrite, cRead, dWrite, dRead}
-use Rattle.lent.specs.Lists.{chipAfterAll, answersLaid}
+use Rattle.lent.specs.Lent.{together, requested, c_write, c_read, d_write, d_read}
+use Rattle.lent.specs.Lists.{chip_after_all, answers_laid}
 use Rattle.pass.specs.Judged.{history, run}
 
 abbrev pub OneLine : Type 0
@@ -32,13 +32,13 @@ OneLine =
     (old : List ℕ) (at n : ℕ) (a : Answer) (x y : List ℕ) (r s : ℕ) → WrittenLine old at n a x r → WrittenLine old at n a y s → (r ≡ s) × (x ≡ y)
 
 -- the chip that a block leaves, as it is kept
-abbrev pub chipIn : Block → FlatChip
-chipIn b = record { core = b.core; flat = b.flat }
+abbrev pub chip_in : Block → FlatChip
+chip_in b = record { core = b.core; flat = b.flat }
 
 abbrev pub OneBlock : Type 0
 OneBlock =
-    (core : Core) (flat addresses : List ℕ) (h : Host) (n : ℕ) (input out : List ℕ) (r s : Block) (x y : List ℕ) → Sized (chipIn r) → Sized (chipIn s)
-    → Answered (standing core flat addresses h) n input out (cameTo r x) → Answered (standing core flat addresses h) n input out (cameTo s y)
+    (core : Core) (flat addresses : List ℕ) (h : Host) (n : ℕ) (input out : List ℕ) (r s : Block) (x y : List ℕ) → Sized (chip_in r) → Sized (chip_in s)
+    → Answered (standing core flat addresses h) n input out (came_to r x) → Answered (standing core flat addresses h) n input out (came_to s y)
     → (r ≡ s) × (x ≡ y)
 
 abbrev pub OnePiece : Type 0
@@ -48,25 +48,25 @@ OnePiece =
 abbrev pub OneList : Type 0
 OneList =
     (c : FlatChip) (bs out : List ℕ) (d e : FlatChip) (x y : List ℕ) → Sized d → Sized e
-    → (chipOf d ≡ chipAfterAll (chipOf c) bs) × (x ≡ answersLaid (chipOf c) bs out)
-    → (chipOf e ≡ chipAfterAll (chipOf c) bs) × (y ≡ answersLaid (chipOf c) bs out) → (d ≡ e) × (x ≡ y)
+    → (chip_of d ≡ chip_after_all (chip_of c) bs) × (x ≡ answers_laid (chip_of c) bs out)
+    → (chip_of e ≡ chip_after_all (chip_of c) bs) × (y ≡ answers_laid (chip_of c) bs out) → (d ≡ e) × (x ≡ y)
 
 -- what a lent function ensures of its result r and of the record z that it leaves
 abbrev pub Takes : Record → FlatChip → Host → Rest → Host → Type 0
-Takes q c h r z = together r z ≡ requested q (chipOf c) h
+Takes q c h r z = together r z ≡ requested q (chip_of c) h
 
 abbrev pub Steps : List ℕ → FlatChip → Host → Rest → Host → Type 0
-Steps bs c h r z = together r z ≡ step_of (chipOf c) h bs
+Steps bs c h r z = together r z ≡ step_of (chip_of c) h bs
 
 -- one result and one later record
 abbrev pub One : (FlatChip → Host → Rest → Host → Type 0) → Type 0
 One E = (c : FlatChip) (h : Host) (r s : Rest) (y z : Host) → Sized r.chip → Sized s.chip → E c h r y → E c h s z → (r ≡ s) × (y ≡ z)
 
 pub record OneLent : Type 0 where
-  pub write-c : (byte : ℕ) → One (Takes (cWrite byte))
-  pub write-d : (byte : ℕ) → One (Takes (dWrite byte))
-  pub read-c : One (Takes cRead)
-  pub read-d : One (Takes dRead)
+  pub write_c : (byte : ℕ) → One (Takes (c_write byte))
+  pub write_d : (byte : ℕ) → One (Takes (d_write byte))
+  pub read_c : One (Takes c_read)
+  pub read_d : One (Takes d_read)
   pub step : (bs : List ℕ) → One (Steps bs)
 
 -- turned away, everything is as it was
@@ -75,10 +75,10 @@ StillLent E =
     (c : FlatChip) (h : Host) (r : Rest) (z : Host) (k : ℕ) → Sized c → Sized r.chip → E c h r z → r.answer ≡ Refused k → (r.chip ≡ c) × (z ≡ h)
 
 pub record LentIsStill : Type 0 where
-  pub write-c : (byte : ℕ) → StillLent (Takes (cWrite byte))
-  pub write-d : (byte : ℕ) → StillLent (Takes (dWrite byte))
-  pub read-c : StillLent (Takes cRead)
-  pub read-d : StillLent (Takes dRead)
+  pub write_c : (byte : ℕ) → StillLent (Takes (c_write byte))
+  pub write_d : (byte : ℕ) → StillLent (Takes (d_write byte))
+  pub read_c : StillLent (Takes c_read)
+  pub read_d : StillLent (Takes d_read)
   pub step : (bs : List ℕ) → StillLent (Steps bs)
 
 pub record Call : Type 0 where
@@ -90,14 +90,14 @@ abbrev pub Calls : FlatChip → Host → List Call → Type 0
 Calls c h [] = Unit
 Calls c h (k ∷ ks) = Steps k.bytes c h k.rest k.host × Calls k.rest.chip k.host ks
 
-abbrev pub leftBy : FlatChip → Host → List Call → Point
-leftBy c h [] = at (chipOf c) h
-leftBy c h (k ∷ ks) = leftBy k.rest.chip k.host ks
+abbrev pub left_by : FlatChip → Host → List Call → Point
+left_by c h [] = at (chip_of c) h
+left_by c h (k ∷ ks) = left_by k.rest.chip k.host ks
 
-abbrev pub askedIn : List Call → List (List ℕ)
-askedIn ks = map (λ k. k.bytes) ks
+abbrev pub asked_in : List Call → List (List ℕ)
+asked_in ks = map (λ k. k.bytes) ks
 
 abbrev pub LentCallsAreARun : Type 0
 LentCallsAreARun =
     (c : FlatChip) (h : Host) (ks : List Call) → Calls c h ks
-    → (leftBy c h ks ≡ run (at (chipOf c) h) (askedIn ks)) × (map (λ k. k.rest.answer) ks ≡ answersIn (history (at (chipOf c) h) (askedIn ks)))
+    → (left_by c h ks ≡ run (at (chip_of c) h) (asked_in ks)) × (map (λ k. k.rest.answer) ks ≡ answers_in (history (at (chip_of c) h) (asked_in ks)))

@@ -6,24 +6,24 @@
 --   Turn s r          == what the program's functions promise of a reading (run/specs/Kept): the whole records of the kept bytes and the new ones are answered, the bytes
 --                        behind them are kept, and the lines are printed
 --   Turns s rs t      == reading after reading, from s to t
---   printedAt s out   == everything printed when the input ends at s: a last piece that is not whole has its line, too
+--   printed_at s out   == everything printed when the input ends at s: a last piece that is not whole has its line, too
 --   ReadingsAreARun   == what is printed are the lines of one run from power-up over all bytes read, a short last piece being a record; and where it stands
 --   StartIsGiven      == the chip of a start file is power-up with a supply such as there are; without a file it is one of zeros
 --   PromisesArePrinted == a promise Q about every run from power-up holds of the answers whose lines are printed, whatever the start file and the readings
 -- Assumes nothing.
 use Rattle.std.specs.Prelude.{ℕ, ◌+◌, ◌-◌, ◌/◌, ◌^◌, ◌≤◌, ◌<◌, ◌≡◌, cond, List, [], ◌∷◌, ◌++◌, eqb, length, get_or, take, drop}
-use Rattle.record.specs.Record.{recordLength}
-use Rattle.host.specs.Sequence.{powerUp}
+use Rattle.record.specs.Record.{record_length}
+use Rattle.host.specs.Sequence.{power_up}
 use Rattle.answer.specs.declared.Answer.{Answer}
 use Rattle.answer.specs.Line.{lines_of}
-use Rattle.answer.specs.Put.{afterLine, withLine}
+use Rattle.answer.specs.Put.{after_line, with_line}
 use Rattle.chip.specs.declared.Supply.{Supply}
-use Rattle.himib.specs.Runs.{Point, at, start, Given, answersIn}
+use Rattle.himib.specs.Runs.{Point, at, start, Given, answers_in}
 use Rattle.block.specs.Block.{Work, block_of}
 use Rattle.lent.specs.Lists.{cut}
 use Rattle.pass.specs.Judged.{happens, history, run}
-use Rattle.start.specs.Start.{fitsIn, supplyIn, nothingGiven, startedOf}
-use Rattle.ties.specs.Ties.{recordsIn}
+use Rattle.start.specs.Start.{fits_in, supply_in, nothing_given, started_of}
+use Rattle.ties.specs.Ties.{records_in}
 
 pub record Standing : Type 0 where
   pub point : Point
@@ -42,7 +42,7 @@ input_of s r = s.kept ++ r.bytes
 pub record Turn (s : Standing) (r : Reading) : Type 0 where
   pub work : Work
   pub is : work ≡ block_of s.point s.number (input_of s r) r.out
-  pub low : length (input_of s r) - work.at < recordLength
+  pub low : length (input_of s r) - work.at < record_length
   pub point : r.after.point ≡ work.point
   pub number : r.after.number ≡ work.number
   pub kept : r.after.kept ≡ drop work.at (input_of s r)
@@ -59,32 +59,32 @@ bytes_of (r ∷ rs) = r.bytes ++ bytes_of rs
 abbrev pub begun : Point → Standing
 begun p = record { point = p; number = 1; kept = []; printed = [] }
 
-abbrev pub lastAnswer : Standing → Answer
-lastAnswer s = (happens s.point s.kept).answer
+abbrev pub last_answer : Standing → Answer
+last_answer s = (happens s.point s.kept).answer
 
-unfoldable pub printedAt : Standing → List ℕ → List ℕ
-printedAt s out =
+unfoldable pub printed_at : Standing → List ℕ → List ℕ
+printed_at s out =
     cond (eqb (length s.kept) 0) s.printed
-    (s.printed ++ take (afterLine out 0 s.number (lastAnswer s)) (withLine out 0 s.number (lastAnswer s)))
+    (s.printed ++ take (after_line out 0 s.number (last_answer s)) (with_line out 0 s.number (last_answer s)))
 
 pub record OneRun (p : Point) (bytes out : List ℕ) (t : Standing) : Type 0 where
-  pub point : t.point ≡ run p (recordsIn bytes)
-  pub kept : length t.kept < recordLength
-  pub printed : printedAt t out ≡ lines_of 1 (answersIn (history p (cut bytes)))
+  pub point : t.point ≡ run p (records_in bytes)
+  pub kept : length t.kept < record_length
+  pub printed : printed_at t out ≡ lines_of 1 (answers_in (history p (cut bytes)))
 
 -- fewer records than 2^64, and room for a line where the last piece is answered
 abbrev pub ReadingsAreARun : Type 0
 ReadingsAreARun =
-    (p : Point) (rs : List Reading) (t : Standing) (out : List ℕ) → Turns (begun p) rs t → length (bytes_of rs) / recordLength + 1 < 2 ^ 64
-    → recordLength ≤ length out → OneRun p (bytes_of rs) out t
+    (p : Point) (rs : List Reading) (t : Standing) (out : List ℕ) → Turns (begun p) rs t → length (bytes_of rs) / record_length + 1 < 2 ^ 64
+    → record_length ≤ length out → OneRun p (bytes_of rs) out t
 
 -- the supply of a start file, or zeros where it does not fit
-abbrev pub givenBy : List ℕ → Supply
-givenBy s = cond (fitsIn s) (supplyIn s) nothingGiven
+abbrev pub given_by : List ℕ → Supply
+given_by s = cond (fits_in s) (supply_in s) nothing_given
 
 abbrev pub StartIsGiven : Type 0
 StartIsGiven =
-    (s : List ℕ) → ((i : ℕ) → get_or s i 0 < 256) → (at (startedOf s).chip powerUp ≡ start (givenBy s)) × Given (givenBy s)
+    (s : List ℕ) → ((i : ℕ) → get_or s i 0 < 256) → (at (started_of s).chip power_up ≡ start (given_by s)) × Given (given_by s)
 
 -- answers as Q asks for, and their lines are what is printed
 pub record Printed (Q : Supply → List (List ℕ) → List Answer → Type 0) (given : Supply) (bytes printed : List ℕ) : Type 0 where
@@ -95,6 +95,6 @@ pub record Printed (Q : Supply → List (List ℕ) → List Answer → Type 0) (
 abbrev pub PromisesArePrinted : Type 1
 PromisesArePrinted =
     (Q : Supply → List (List ℕ) → List Answer → Type 0)
-    → ((given : Supply) → Given given → (rs : List (List ℕ)) → Q given rs (answersIn (history (start given) rs)))
-    → (s : List ℕ) → ((i : ℕ) → get_or s i 0 < 256) → (rs : List Reading) (t : Standing) (out : List ℕ) → Turns (begun (at (startedOf s).chip powerUp)) rs t
-    → length (bytes_of rs) / recordLength + 1 < 2 ^ 64 → recordLength ≤ length out → Printed Q (givenBy s) (bytes_of rs) (printedAt t out)
+    → ((given : Supply) → Given given → (rs : List (List ℕ)) → Q given rs (answers_in (history (start given) rs)))
+    → (s : List ℕ) → ((i : ℕ) → get_or s i 0 < 256) → (rs : List Reading) (t : Standing) (out : List ℕ) → Turns (begun (at (started_of s).chip power_up)) rs t
+    → length (bytes_of rs) / record_length + 1 < 2 ^ 64 → record_length ≤ length out → Printed Q (given_by s) (bytes_of rs) (printed_at t out)

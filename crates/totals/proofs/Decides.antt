@@ -1,23 +1,23 @@
 -- What is said at the end is decided by the bytes of the input, wherever it was cut between two readings. Assumes nothing.
---   input-decides == the theorem
+--   input_decides == the theorem
 use Prim.Native.Nat.{ℕ}
 use mathlib.Core.Path.{◌≡◌, refl, ap, ◌∙◌}
 use mathlib.Core.List.{List, [], ◌∷◌, ◌++◌}
 use Rattle.chain.specs.Chain.{rest_of}
-use Rattle.chain.specs.Blocks.{blocksOf}
-use Rattle.chain.proofs.Blocks.{blocks-are-one, rest-is-of-last}
+use Rattle.chain.specs.Blocks.{blocks_of}
+use Rattle.chain.proofs.Blocks.{blocks_are_one, rest_is_of_last}
 use Rattle.totals.specs.declared.Taken.{Taken}
-use Rattle.totals.specs.Taken.{nothingYet, takenOn, takenIn, outcomeOf, InputDecides}
-use Rattle.totals.proofs.Sheet.{the-outcomes}
+use Rattle.totals.specs.Taken.{nothing_yet, taken_on, taken_in, outcome_of, InputDecides}
+use Rattle.totals.proofs.Sheet.{the_outcomes}
 
 -- the chain goes through all stretches, and of the bytes that are left over the last one has the say
-taken-parts : (s : Taken) (bss : List (List ℕ)) (last : List ℕ)
-    → takenIn s (bss ++ (last ∷ [])) ≡ record { chain = blocksOf s.chain (bss ++ (last ∷ [])); rest = rest_of last }
-unfolding takenIn blocksOf
-taken-parts s [] last = refl
-taken-parts s (bs ∷ bss) last = taken-parts (takenOn s bs) bss last
+taken_parts : (s : Taken) (bss : List (List ℕ)) (last : List ℕ)
+    → taken_in s (bss ++ (last ∷ [])) ≡ record { chain = blocks_of s.chain (bss ++ (last ∷ [])); rest = rest_of last }
+unfolding taken_in blocks_of
+taken_parts s [] last = refl
+taken_parts s (bs ∷ bss) last = taken_parts (taken_on s bs) bss last
 
-pub input-decides : InputDecides
-unfolding outcomeOf
-input-decides bss last h =
-    ap outcomeOf (taken-parts nothingYet bss last) ∙ rw (blocks-are-one bss last h, rest-is-of-last bss last h)
+pub input_decides : InputDecides
+unfolding outcome_of
+input_decides bss last h =
+    ap outcome_of (taken_parts nothing_yet bss last) ∙ rw (blocks_are_one bss last h, rest_is_of_last bss last h)

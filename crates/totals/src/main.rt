@@ -5,7 +5,7 @@
 //
 // Where the input ends within a reading, or where the sum does not fit in 64 bits, that is told on standard error, and no sum is printed.
 ghost use Rattle.std.specs.Prelude.{◌≡◌};
-ghost use Rattle.totals.specs.Taken.{takenOn, outcomeOf};
+ghost use Rattle.totals.specs.Taken.{taken_on, outcome_of};
 
 use attributes::octets::Total;
 use chain::Chain;
@@ -35,7 +35,7 @@ struct Turn {
 
 // Takes the readings of one stretch of input, behind those before it.
 fn take_more(state: Taken, input: &[u8]) -> Taken
-    ensures { result ≡ takenOn state input.now }
+    ensures { result ≡ taken_on state input.now }
 {
     let before = state.chain;
     let after = chain::take_readings(before, input);
@@ -47,7 +47,7 @@ fn take_more(state: Taken, input: &[u8]) -> Taken
 
 // What there is to say.
 fn outcome_of(state: Taken) -> Outcome
-    ensures { result ≡ outcomeOf state }
+    ensures { result ≡ outcome_of state }
 {
     let rest = state.rest;
     if 0 < rest {

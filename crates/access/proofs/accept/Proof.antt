@@ -1,4 +1,4 @@
-use Rattle.access.specs.Access.{writeOf}
+use Rattle.access.specs.Access.{write_of}
 use borrow.Author.Rules.{rules}
 use Rattle.access.proofs.accept.Statement.{statement}
 use Rattle.access.proofs.accept.Tie as tie
@@ -13,7 +13,7 @@ completed-requires : tie.Need-completed-requires
 completed-requires c κs = search rules
 
 returns : tie.Need-returns
-unfolding writeOf
+unfolding write_of
 returns c = rw (c.completed.ensures, c.before.before.before.write_byte.ensures, c.before.before.before.before.write.ensures)
 
 pub accept-spec : {M : Type 1} → statement M

@@ -1,6 +1,6 @@
 use mathlib.Core.Path.{sym, ap, ◌∙◌}
 use Rattle.host.specs.declared.Role.{Role}
-use Rattle.access.specs.Access.{read_by}
+use Rattle.access.specs.Access.{read_by_lem}
 use borrow.Author.Rules.{rules}
 use Rattle.access.proofs.see.Statement.{statement}
 use Rattle.access.proofs.see.Tie as tie
@@ -24,24 +24,24 @@ enum-told-4 : tie.Need-enum-told-4
 enum-told-4 c = search rules
 
 returns : tie.Need-returns
-unfolding read_by
-returns c = sym (ap (λ (k : Role). read_by k c.before.before.args.core) c.enum_told.given.1)
+unfolding read_by_lem
+returns c = sym (ap (λ (k : Role). read_by_lem k c.before.before.args.core) c.enum_told.given.1)
 
 returns-2 : tie.Need-returns-2
-unfolding read_by
-returns-2 c = c.clear-change.ensures ∙ sym (ap (λ (k : Role). read_by k c.before.before.before.before.args.core) c.before.before.role.given.1)
+unfolding read_by_lem
+returns-2 c = c.clear-change.ensures ∙ sym (ap (λ (k : Role). read_by_lem k c.before.before.before.before.args.core) c.before.before.role.given.1)
 
 returns-3 : tie.Need-returns-3
-unfolding read_by
-returns-3 c = sym (ap (λ (k : Role). read_by k c.before.before.args.core) c.enum-told2.given.1)
+unfolding read_by_lem
+returns-3 c = sym (ap (λ (k : Role). read_by_lem k c.before.before.args.core) c.enum-told2.given.1)
 
 returns-4 : tie.Need-returns-4
-unfolding read_by
-returns-4 c = sym (ap (λ (k : Role). read_by k c.before.before.args.core) c.enum-told3.given.1)
+unfolding read_by_lem
+returns-4 c = sym (ap (λ (k : Role). read_by_lem k c.before.before.args.core) c.enum-told3.given.1)
 
 returns-5 : tie.Need-returns-5
-unfolding read_by
-returns-5 c = sym (ap (λ (k : Role). read_by k c.before.before.args.core) c.enum-told4.given.1)
+unfolding read_by_lem
+returns-5 c = sym (ap (λ (k : Role). read_by_lem k c.before.before.args.core) c.enum-told4.given.1)
 
 pub see-spec : {M : Type 1} → statement M
 see-spec =

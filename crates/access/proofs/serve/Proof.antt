@@ -1,4 +1,4 @@
-use Rattle.attributes.specs.Flat.{nineOf}
+use Rattle.attributes.specs.Flat.{nine_of}
 use mathlib.Core.Path.{sym, ap, ◌∙◌}
 use Rattle.record.specs.declared.Access.{Access}
 use Rattle.access.specs.Access.{served}
@@ -39,7 +39,7 @@ returns c =
     rw (c.done.ensures, c.before.select.ensures)
     (sym
     (ap
-    (λ (k : Access). served k c.before.before.before.before.before.args.core (nineOf c.before.before.before.before.before.args.counters.now c.before.before.before.before.before.args.addresses.now)
+    (λ (k : Access). served k c.before.before.before.before.before.args.core (nine_of c.before.before.before.before.before.args.counters.now c.before.before.before.before.before.args.addresses.now)
     c.before.before.before.before.before.args.h)
     c.before.before.before.access.given.1))
 
@@ -49,7 +49,7 @@ returns-2 c =
     c.write-d.ensures
     ∙ sym
     (ap
-    (λ (k : Access). served k c.before.before.before.before.args.core (nineOf c.before.before.before.before.args.counters.now c.before.before.before.before.args.addresses.now)
+    (λ (k : Access). served k c.before.before.before.before.args.core (nine_of c.before.before.before.before.args.counters.now c.before.before.before.before.args.addresses.now)
     c.before.before.before.before.args.h)
     c.before.before.access2.given.1)
 
@@ -58,7 +58,7 @@ unfolding served
 returns-3 c =
     c.read-c.ensures
     ∙ sym
-    (ap (λ (k : Access). served k c.before.before.before.args.core (nineOf c.before.before.before.args.counters.now c.before.before.before.args.addresses.now) c.before.before.before.args.h)
+    (ap (λ (k : Access). served k c.before.before.before.args.core (nine_of c.before.before.before.args.counters.now c.before.before.before.args.addresses.now) c.before.before.before.args.h)
     c.before.enum_told.given.1)
 
 returns-4 : tie.Need-returns-4
@@ -66,7 +66,7 @@ unfolding served
 returns-4 c =
     c.read-d.ensures
     ∙ sym
-    (ap (λ (k : Access). served k c.before.before.before.args.core (nineOf c.before.before.before.args.counters.now c.before.before.before.args.addresses.now) c.before.before.before.args.h)
+    (ap (λ (k : Access). served k c.before.before.before.args.core (nine_of c.before.before.before.args.counters.now c.before.before.before.args.addresses.now) c.before.before.before.args.h)
     c.before.enum-told2.given.1)
 
 pub serve-spec : {M : Type 1} → statement M

@@ -1,6 +1,6 @@
 use mathlib.Core.List.{[]}
-use Rattle.attributes.specs.Flat.{nineOf}
-use Rattle.attributes.proofs.FlatLaws.{counter-any, address-any}
+use Rattle.attributes.specs.Flat.{nine_of}
+use Rattle.attributes.proofs.FlatLaws.{counter_any, address_any}
 use mathlib.Core.Path.{sym, ap, ◌∙◌}
 use Rattle.host.specs.declared.Register.{Register}
 use Rattle.access.specs.Access.{value_of}
@@ -98,7 +98,7 @@ returns c =
     c.single.ensures
     ∙ sym
     (ap
-    (λ (k : Register). value_of c.before.before.before.before.before.before.args.core (nineOf c.before.before.before.before.before.before.args.counters.now c.before.before.before.before.before.before.args.addresses.now)
+    (λ (k : Register). value_of c.before.before.before.before.before.before.args.core (nine_of c.before.before.before.before.before.before.args.counters.now c.before.before.before.before.before.before.args.addresses.now)
     k)
     c.before.enum_told.given.1)
 
@@ -108,7 +108,7 @@ returns-2 c =
     c.spread.ensures
     ∙ sym
     (ap
-    (λ (k : Register). value_of c.before.before.before.before.before.before.args.core (nineOf c.before.before.before.before.before.before.args.counters.now c.before.before.before.before.before.before.args.addresses.now)
+    (λ (k : Register). value_of c.before.before.before.before.before.before.args.core (nine_of c.before.before.before.before.before.before.args.counters.now c.before.before.before.before.before.before.args.addresses.now)
     k)
     c.before.enum-told2.given.1)
 
@@ -118,7 +118,7 @@ returns-3 c =
     c.spread2.ensures
     ∙ sym
     (ap
-    (λ (k : Register). value_of c.before.before.before.before.before.before.args.core (nineOf c.before.before.before.before.before.before.args.counters.now c.before.before.before.before.before.before.args.addresses.now)
+    (λ (k : Register). value_of c.before.before.before.before.before.before.args.core (nine_of c.before.before.before.before.before.before.args.counters.now c.before.before.before.before.before.before.args.addresses.now)
     k)
     c.before.enum-told3.given.1)
 
@@ -128,7 +128,7 @@ returns-4 c =
     c.single2.ensures
     ∙ sym
     (ap
-    (λ (k : Register). value_of c.before.before.before.before.before.before.args.core (nineOf c.before.before.before.before.before.before.args.counters.now c.before.before.before.before.before.before.args.addresses.now)
+    (λ (k : Register). value_of c.before.before.before.before.before.before.args.core (nine_of c.before.before.before.before.before.before.args.counters.now c.before.before.before.before.before.before.args.addresses.now)
     k)
     c.before.enum-told4.given.1)
 
@@ -138,7 +138,7 @@ returns-5 c =
     c.single3.ensures
     ∙ sym
     (ap
-    (λ (k : Register). value_of c.before.before.before.before.before.before.args.core (nineOf c.before.before.before.before.before.before.args.counters.now c.before.before.before.before.before.before.args.addresses.now)
+    (λ (k : Register). value_of c.before.before.before.before.before.before.args.core (nine_of c.before.before.before.before.before.before.args.counters.now c.before.before.before.before.before.before.args.addresses.now)
     k)
     c.before.enum-told5.given.1)
 
@@ -148,7 +148,7 @@ returns-6 c =
     c.single4.ensures
     ∙ sym
     (ap
-    (λ (k : Register). value_of c.before.before.before.before.before.before.args.core (nineOf c.before.before.before.before.before.before.args.counters.now c.before.before.before.before.before.before.args.addresses.now)
+    (λ (k : Register). value_of c.before.before.before.before.before.before.args.core (nine_of c.before.before.before.before.before.before.args.counters.now c.before.before.before.before.before.before.args.addresses.now)
     k)
     c.before.enum-told6.given.1)
 
@@ -159,7 +159,7 @@ returns-7 c =
     (sym
     (ap
     (λ (k : Register). value_of c.before.before.before.before.before.before.before.before.before.args.core
-    (nineOf c.before.before.before.before.before.before.before.before.before.args.counters.now c.before.before.before.before.before.before.before.before.before.args.addresses.now) k)
+    (nine_of c.before.before.before.before.before.before.before.before.before.args.counters.now c.before.before.before.before.before.before.before.before.before.args.addresses.now) k)
     c.before.before.before.before.register.given.1))
 
 returns-8 : tie.Need-returns-8
@@ -169,7 +169,7 @@ returns-8 c =
     (sym
     (ap
     (λ (k : Register). value_of c.before.before.before.before.before.before.before.before.before.args.core
-    (nineOf c.before.before.before.before.before.before.before.before.before.args.counters.now c.before.before.before.before.before.before.before.before.before.args.addresses.now) k)
+    (nine_of c.before.before.before.before.before.before.before.before.before.args.counters.now c.before.before.before.before.before.before.before.before.before.args.addresses.now) k)
     c.before.before.before.before.register2.given.1))
 
 returns-9 : tie.Need-returns-9
@@ -179,25 +179,25 @@ returns-9 c =
     rw (
       c.spread3.ensures,
       c.before.counter.ensures,
-      counter-any a.counters.now [] a.addresses.now,
+      counter_any a.counters.now [] a.addresses.now,
       c.before.before.index4.ensures,
       c.before.before.before.index3.ensures,
     )
     (sym
     (ap
     (λ (k : Register). value_of c.before.before.before.before.before.before.before.before.before.before.args.core
-    (nineOf c.before.before.before.before.before.before.before.before.before.before.args.counters.now c.before.before.before.before.before.before.before.before.before.before.args.addresses.now) k)
+    (nine_of c.before.before.before.before.before.before.before.before.before.before.args.counters.now c.before.before.before.before.before.before.before.before.before.before.args.addresses.now) k)
     c.before.before.before.before.before.register3.given.1))
 
 returns-10 : tie.Need-returns-10
 unfolding value_of
 returns-10 c =
     let a = c.before.before.before.before.before.before.before.before.args in
-    rw (c.address.ensures, address-any [] a.counters.now a.addresses.now, c.before.index5.ensures)
+    rw (c.address.ensures, address_any [] a.counters.now a.addresses.now, c.before.index5.ensures)
     (sym
     (ap
     (λ (k : Register). value_of c.before.before.before.before.before.before.before.before.args.core
-    (nineOf c.before.before.before.before.before.before.before.before.args.counters.now c.before.before.before.before.before.before.before.before.args.addresses.now) k)
+    (nine_of c.before.before.before.before.before.before.before.before.args.counters.now c.before.before.before.before.before.before.before.before.args.addresses.now) k)
     c.before.before.before.register4.given.1))
 
 pub value_spec : {M : Type 1} → statement M

@@ -1,5 +1,5 @@
 use mathlib.Core.Path.{sym, ◌∙◌}
-use Rattle.access.proofs.AccessLaws.{write-unlisted, write-barred, write-strange, write-command, write-plain}
+use Rattle.access.proofs.AccessLaws.{write_unlisted, write_barred, write_strange, write_command, write_plain}
 use borrow.Author.Rules.{rules}
 use Rattle.access.proofs.write_d.Statement.{statement}
 use Rattle.access.proofs.write_d.Tie as tie
@@ -11,7 +11,7 @@ turn-away-requires : tie.Need-turn-away-requires
 turn-away-requires c κs = search rules
 
 returns : tie.Need-returns
-returns c = c.turn-away.ensures ∙ write-unlisted _ _ c.before.before.before.row_at.ensures _ _ c.before.if1.true
+returns c = c.turn-away.ensures ∙ write_unlisted _ _ c.before.before.before.row_at.ensures _ _ c.before.if1.true
 
 takes-commands-requires : tie.Need-takes-commands-requires
 takes-commands-requires c κs = search rules
@@ -28,7 +28,7 @@ accept-requires c κs = search rules
 returns-2 : tie.Need-returns-2
 returns-2 c =
     c.accept.ensures
-    ∙ write-command _ _ c.before.before.before.before.before.before.before.before.before.row_at.ensures _ _
+    ∙ write_command _ _ c.before.before.before.before.before.before.before.before.before.row_at.ensures _ _
     c.before.before.before.before.before.before.before.if1.false c.before.before.before.before.before.before.if2.true
     (sym c.before.before.before.before.before.takes-commands.ensures ∙ c.before.before.before.before.if3.true)
     (sym (rw c.before.before.before.decode.ensures at c.before.before.is-listed.ensures) ∙ c.before.if4.true)
@@ -39,7 +39,7 @@ turn-away-requires-2 c κs = search rules
 returns-3 : tie.Need-returns-3
 returns-3 c =
     c.turn-away2.ensures
-    ∙ write-strange _ _ c.before.before.before.before.before.before.before.before.before.row_at.ensures _ _
+    ∙ write_strange _ _ c.before.before.before.before.before.before.before.before.before.row_at.ensures _ _
     c.before.before.before.before.before.before.before.if1.false c.before.before.before.before.before.before.if2.true
     (sym c.before.before.before.before.before.takes-commands.ensures ∙ c.before.before.before.before.if3.true)
     (sym (rw c.before.before.before.decode.ensures at c.before.before.is-listed.ensures) ∙ c.before.if4.false)
@@ -50,7 +50,7 @@ accept-requires-2 c κs = search rules
 returns-4 : tie.Need-returns-4
 returns-4 c =
     c.accept2.ensures
-    ∙ write-plain _ _ c.before.before.before.before.before.before.row_at.ensures _ _ c.before.before.before.before.if1.false
+    ∙ write_plain _ _ c.before.before.before.before.before.before.row_at.ensures _ _ c.before.before.before.before.if1.false
     c.before.before.before.if2.true (sym c.before.before.takes-commands.ensures ∙ c.before.if3.false)
 
 turn-away-requires-3 : tie.Need-turn-away-requires-3
@@ -58,7 +58,7 @@ turn-away-requires-3 c κs = search rules
 
 returns-5 : tie.Need-returns-5
 returns-5 c =
-    c.turn-away3.ensures ∙ write-barred _ _ c.before.before.before.before.row_at.ensures _ _ c.before.before.if1.false c.before.if2.false
+    c.turn-away3.ensures ∙ write_barred _ _ c.before.before.before.before.row_at.ensures _ _ c.before.before.if1.false c.before.if2.false
 
 pub write-d-spec : {M : Type 1} → statement M
 write-d-spec =

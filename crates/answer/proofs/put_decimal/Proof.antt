@@ -2,7 +2,7 @@
 use native.Mathlib.Omega.{arith}
 use Prim.Native.Nat.{◌/◌}
 use Rattle.answer.proofs.Pieces.{put_then, put_as}
-use Rattle.answer.proofs.Digits.{decimal-length-le, decimal-two-groups}
+use Rattle.answer.proofs.Digits.{decimal_length_le, decimal_two_groups}
 use borrow.Author.Rules.{rules}
 use Rattle.answer.proofs.put_decimal.Statement.{statement}
 use Rattle.answer.proofs.put_decimal.Tie as tie
@@ -27,7 +27,7 @@ cast-put-eight-digits c = search rules
 
 put-eight-digits-requires : tie.Need-put-eight-digits-requires
 put-eight-digits-requires c κs =
-    (omega (arith, decimal-length-le 11 (c.before.before.before.before.before.before.before.args.number / 100_000_000) (omega arith)), search rules)
+    (omega (arith, decimal_length_le 11 (c.before.before.before.before.before.before.before.args.number / 100_000_000) (omega arith)), search rules)
 
 same-length-2 : tie.Need-same-length-2
 same-length-2 c = search rules
@@ -35,7 +35,7 @@ same-length-2 c = search rules
 returns-2 : tie.Need-returns-2
 returns-2 c =
     put_as
-    (decimal-two-groups c.before.before.before.before.before.before.before.before.before.before.args.number
+    (decimal_two_groups c.before.before.before.before.before.before.before.before.before.before.args.number
     c.before.before.before.before.before.before.before.before.if1.false)
     (put_then c.before.before.before.before.before.before.put-three-groups.ensures c.before.before.put-eight-digits.ensures)
 

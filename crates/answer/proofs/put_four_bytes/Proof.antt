@@ -1,8 +1,8 @@
 -- `answer::put_four_bytes` meets its contract. Four stores at neighbouring places. Assumes nothing.
 use native.Mathlib.Omega.{arith}
 use lib.ListN.{length-set}
-use Rattle.answer.proofs.Digits.{four-least}
-use Rattle.answer.proofs.Pieces.{four-put, put_as}
+use Rattle.answer.proofs.Digits.{four_least}
+use Rattle.answer.proofs.Pieces.{four_put, put_as}
 use borrow.Author.Rules.{rules}
 use Rattle.answer.proofs.put_four_bytes.Statement.{statement}
 use Rattle.answer.proofs.put_four_bytes.Tie as tie
@@ -47,7 +47,7 @@ same_length : tie.Need-same-length
 same_length c = search rules
 
 returns : tie.Need-returns
-returns c = put_as (four-least _) (four-put _ _ _ _ _ _)
+returns c = put_as (four_least _) (four_put _ _ _ _ _ _)
 
 pub put-four-bytes-spec : {M : Type 1} → statement M
 put-four-bytes-spec =

@@ -1,6 +1,6 @@
 -- `answer::put_four_digits` meets its contract. The four bytes of the number that is made are the four digits. Assumes nothing.
 use Rattle.answer.proofs.Pieces.{put_as}
-use Rattle.answer.proofs.Digits.{four-digits-spelt}
+use Rattle.answer.proofs.Digits.{four_digits_spelt}
 use borrow.Author.Rules.{rules}
 use Rattle.answer.proofs.put_four_digits.Statement.{statement}
 use Rattle.answer.proofs.put_four_digits.Tie as tie
@@ -54,7 +54,7 @@ returns : tie.Need-returns
 returns c =
     let start = c.before.before.before.before.before.before.before.before in
     put_as
-    (four-digits-spelt
+    (four_digits_spelt
     start.args.number
     c.before.before.before.before.before.before.hundredth.result
     c.before.before.before.before.before.tenth.result

@@ -2,7 +2,7 @@
 use native.Mathlib.Omega.{arith}
 use mathlib.Core.Path.{sym}
 use Rattle.answer.proofs.Pieces.{put_as}
-use Rattle.answer.proofs.Digits.{decimal-small, decimal-padded}
+use Rattle.answer.proofs.Digits.{decimal_small, decimal_padded}
 use borrow.Author.Rules.{rules}
 use Rattle.answer.proofs.put_group.Statement.{statement}
 use Rattle.answer.proofs.put_group.Tie as tie
@@ -21,7 +21,7 @@ same_length c = search rules
 
 returns : tie.Need-returns
 returns c =
-    put_as (sym (decimal-small c.before.before.before.before.before.before.before.args.number (omega arith))) c.before.before.put_byte.ensures
+    put_as (sym (decimal_small c.before.before.before.before.before.before.before.args.number (omega arith))) c.before.before.put_byte.ensures
 
 put-two-digits-requires : tie.Need-put-two-digits-requires
 put-two-digits-requires c κs = search rules
@@ -32,7 +32,7 @@ same-length-2 c = search rules
 returns-2 : tie.Need-returns-2
 returns-2 c =
     let start = c.before.before.before.before.before.before.before in
-    put_as (decimal-padded 1 start.args.number (omega arith) (omega arith)) c.before.before.put-two-digits.ensures
+    put_as (decimal_padded 1 start.args.number (omega arith) (omega arith)) c.before.before.put-two-digits.ensures
 
 put-three-digits-requires : tie.Need-put-three-digits-requires
 put-three-digits-requires c κs = search rules
@@ -43,7 +43,7 @@ same-length-3 c = search rules
 returns-3 : tie.Need-returns-3
 returns-3 c =
     let start = c.before.before.before.before.before.before.before in
-    put_as (decimal-padded 2 start.args.number (omega arith) (omega arith)) c.before.before.put-three-digits.ensures
+    put_as (decimal_padded 2 start.args.number (omega arith) (omega arith)) c.before.before.put-three-digits.ensures
 
 put-four-digits-requires : tie.Need-put-four-digits-requires
 put-four-digits-requires c κs = search rules
@@ -54,7 +54,7 @@ same-length-4 c = search rules
 returns-4 : tie.Need-returns-4
 returns-4 c =
     let start = c.before.before.before.before.before.before.before in
-    put_as (decimal-padded 3 start.args.number (omega arith) (omega arith)) c.before.before.put-four-digits.ensures
+    put_as (decimal_padded 3 start.args.number (omega arith) (omega arith)) c.before.before.put-four-digits.ensures
 
 pub put-group-spec : {M : Type 1} → statement M
 put-group-spec =

@@ -1,5 +1,5 @@
 -- `answer::put_line` meets its contract. With room the line is put; without, nothing is. Assumes nothing.
-use Rattle.answer.proofs.Room.{past_end, short-of-room, written, unwritten}
+use Rattle.answer.proofs.Room.{past_end, short_of_room, written, unwritten}
 use borrow.Author.Rules.{rules}
 use Rattle.answer.proofs.put_line.Statement.{statement}
 use Rattle.answer.proofs.put_line.Tie as tie
@@ -19,7 +19,7 @@ returns c =
     c.before.before.put_whole.ensures.1
 
 returns-2 : tie.Need-returns-2
-returns-2 c = unwritten _ _ _ _ (short-of-room _ _ c.before.if1.true c.if2.false)
+returns-2 c = unwritten _ _ _ _ (short_of_room _ _ c.before.if1.true c.if2.false)
 
 returns-3 : tie.Need-returns-3
 returns-3 c = unwritten _ _ _ _ (past_end _ _ c.if1.false)

@@ -1,8 +1,8 @@
 -- `answer::put_refused` meets its contract. The word, a space, the number and the end of the line. Assumes nothing.
 use native.Mathlib.Omega.{arith}
-use Rattle.answer.specs.Line.{said_of, tailOf}
+use Rattle.answer.specs.Line.{said_of, tail_of}
 use Rattle.answer.proofs.Pieces.{put_then}
-use Rattle.answer.proofs.Digits.{decimal-length-le}
+use Rattle.answer.proofs.Digits.{decimal_length_le}
 use borrow.Author.Rules.{rules}
 use Rattle.answer.proofs.put_refused.Statement.{statement}
 use Rattle.answer.proofs.put_refused.Tie as tie
@@ -20,7 +20,7 @@ put-byte-requires-2 : tie.Need-put-byte-requires-2
 put-byte-requires-2 c κs =
     omega (
       arith,
-      decimal-length-le 2 c.before.before.before.before.before.before.before.before.before.before.before.before.before.before.args.number
+      decimal_length_le 2 c.before.before.before.before.before.before.before.before.before.before.before.before.before.before.args.number
           (omega arith),
     )
 
@@ -28,7 +28,7 @@ same_length : tie.Need-same-length
 same_length c = search rules
 
 returns : tie.Need-returns
-unfolding said_of tailOf
+unfolding said_of tail_of
 returns c =
     put_then
     (put_then

@@ -1,8 +1,8 @@
 -- `answer::put_sent` meets its contract. The word, the mask and the end of the line. Assumes nothing.
 use native.Mathlib.Omega.{arith}
-use Rattle.answer.specs.Line.{said_of, tailOf}
+use Rattle.answer.specs.Line.{said_of, tail_of}
 use Rattle.answer.proofs.Pieces.{put_then}
-use Rattle.answer.proofs.Lengths.{named-length}
+use Rattle.answer.proofs.Lengths.{named_length}
 use borrow.Author.Rules.{rules}
 use Rattle.answer.proofs.put_sent.Statement.{statement}
 use Rattle.answer.proofs.put_sent.Tie as tie
@@ -11,16 +11,16 @@ put-word-requires : tie.Need-put-word-requires
 put-word-requires c κs = search rules
 
 put-mask-requires : tie.Need-put-mask-requires
-put-mask-requires c κs = omega (arith, named-length c.before.before.before.before.before.before.args.word)
+put-mask-requires c κs = omega (arith, named_length c.before.before.before.before.before.before.args.word)
 
 put-byte-requires : tie.Need-put-byte-requires
-put-byte-requires c κs = omega (arith, named-length c.before.before.before.before.before.before.before.before.before.before.args.word)
+put-byte-requires c κs = omega (arith, named_length c.before.before.before.before.before.before.before.before.before.before.args.word)
 
 same_length : tie.Need-same-length
 same_length c = search rules
 
 returns : tie.Need-returns
-unfolding said_of tailOf
+unfolding said_of tail_of
 returns c =
     put_then
     (put_then c.before.before.before.before.before.before.before.before.before.before.put_word.ensures

@@ -1,7 +1,7 @@
 -- `answer::put_tail` meets its contract. Each answer by its own function. Assumes nothing.
 use native.Mathlib.Omega.{arith}
-use Rattle.answer.specs.Line.{said_of, tailOf}
-use Rattle.answer.proofs.Lengths.{tail-put}
+use Rattle.answer.specs.Line.{said_of, tail_of}
+use Rattle.answer.proofs.Lengths.{tail_put}
 use borrow.Author.Rules.{rules}
 use Rattle.answer.proofs.put_tail.Statement.{statement}
 use Rattle.answer.proofs.put_tail.Tie as tie
@@ -34,26 +34,26 @@ same_length : tie.Need-same-length
 same_length c = search rules
 
 returns : tie.Need-returns
-unfolding said_of tailOf
-returns c = tail-put c.before.before.before.before.enum_told.given.1 (omega arith) c.before.before.put-text.ensures
+unfolding said_of tail_of
+returns c = tail_put c.before.before.before.before.enum_told.given.1 (omega arith) c.before.before.put-text.ensures
 
 same-length-2 : tie.Need-same-length-2
 same-length-2 c = search rules
 
 returns-2 : tie.Need-returns-2
-returns-2 c = tail-put c.before.before.before.before.before.answer.given.1 (omega arith) c.before.before.put-sent.ensures
+returns-2 c = tail_put c.before.before.before.before.before.answer.given.1 (omega arith) c.before.before.put-sent.ensures
 
 same-length-3 : tie.Need-same-length-3
 same-length-3 c = search rules
 
 returns-3 : tie.Need-returns-3
-returns-3 c = tail-put c.before.before.before.before.before.answer2.given.1 (omega arith) c.before.before.put-value.ensures
+returns-3 c = tail_put c.before.before.before.before.before.answer2.given.1 (omega arith) c.before.before.put-value.ensures
 
 same-length-4 : tie.Need-same-length-4
 same-length-4 c = search rules
 
 returns-4 : tie.Need-returns-4
-returns-4 c = tail-put c.before.before.before.before.before.answer3.given.1 (omega arith) c.before.before.Put-refused.ensures
+returns-4 c = tail_put c.before.before.before.before.before.answer3.given.1 (omega arith) c.before.before.Put-refused.ensures
 
 pub put-tail-spec : {M : Type 1} → statement M
 put-tail-spec =

@@ -1,6 +1,6 @@
 -- `answer::put_three_digits` meets its contract. The first digit, and two digits behind it. Assumes nothing.
 use Rattle.answer.proofs.Pieces.{put_then, put_as}
-use Rattle.answer.proofs.Digits.{three-digits}
+use Rattle.answer.proofs.Digits.{three_digits}
 use borrow.Author.Rules.{rules}
 use Rattle.answer.proofs.put_three_digits.Statement.{statement}
 use Rattle.answer.proofs.put_three_digits.Tie as tie
@@ -32,7 +32,7 @@ same_length c = search rules
 returns : tie.Need-returns
 returns c =
     let start = c.before.before.before.before.before.before.before.before.before.before in
-    put_as (three-digits start.args.number _ start.requires.1 c.before.before.before.before.before.before.before.before.hundredth.ensures)
+    put_as (three_digits start.args.number _ start.requires.1 c.before.before.before.before.before.before.before.before.hundredth.ensures)
     (put_then c.before.before.before.before.before.before.put_byte.ensures c.before.before.put-two-digits.ensures)
 
 pub put-three-digits-spec : {M : Type 1} → statement M

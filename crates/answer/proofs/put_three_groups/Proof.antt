@@ -2,7 +2,7 @@
 use native.Mathlib.Omega.{arith}
 use Prim.Native.Nat.{◌/◌}
 use Rattle.answer.proofs.Pieces.{put_then, put_as}
-use Rattle.answer.proofs.Digits.{decimal-length-le, decimal-group, decimal-two-groups}
+use Rattle.answer.proofs.Digits.{decimal_length_le, decimal_group, decimal_two_groups}
 use borrow.Author.Rules.{rules}
 use Rattle.answer.proofs.put_three_groups.Statement.{statement}
 use Rattle.answer.proofs.put_three_groups.Tie as tie
@@ -30,7 +30,7 @@ cast-put-four-digits c = search rules
 
 put-four-digits-requires : tie.Need-put-four-digits-requires
 put-four-digits-requires c κs =
-    (omega (arith, decimal-length-le 3 (c.before.before.before.before.before.before.before.before.args.number / 10000) (omega arith)), search rules)
+    (omega (arith, decimal_length_le 3 (c.before.before.before.before.before.before.before.before.args.number / 10000) (omega arith)), search rules)
 
 same-length-2 : tie.Need-same-length-2
 same-length-2 c = search rules
@@ -38,7 +38,7 @@ same-length-2 c = search rules
 returns-2 : tie.Need-returns-2
 returns-2 c =
     put_as
-    (decimal-group c.before.before.before.before.before.before.before.before.before.before.before.args.number
+    (decimal_group c.before.before.before.before.before.before.before.before.before.before.before.args.number
     c.before.before.before.before.before.before.before.before.before.if1.false)
     (put_then c.before.before.before.before.before.before.put-group2.ensures c.before.before.put-four-digits.ensures)
 
@@ -53,7 +53,7 @@ cast-put-eight-digits c = search rules
 
 put-eight-digits-requires : tie.Need-put-eight-digits-requires
 put-eight-digits-requires c κs = (
-  omega (arith, decimal-length-le 3 (c.before.before.before.before.before.before.before.before.args.number / 100_000_000) (omega arith)),
+  omega (arith, decimal_length_le 3 (c.before.before.before.before.before.before.before.before.args.number / 100_000_000) (omega arith)),
   search rules,
 )
 
@@ -63,7 +63,7 @@ same-length-3 c = search rules
 returns-3 : tie.Need-returns-3
 returns-3 c =
     put_as
-    (decimal-two-groups c.before.before.before.before.before.before.before.before.before.before.before.args.number
+    (decimal_two_groups c.before.before.before.before.before.before.before.before.before.before.before.args.number
     c.before.before.before.before.before.before.before.before.if2.false)
     (put_then c.before.before.before.before.before.before.put-group3.ensures c.before.before.put-eight-digits.ensures)
 

@@ -1,7 +1,7 @@
 -- `answer::put_two_bytes` meets its contract. Two stores at neighbouring places. Assumes nothing.
 use native.Mathlib.Omega.{arith}
 use lib.ListN.{length-set}
-use Rattle.answer.proofs.Pieces.{two-put}
+use Rattle.answer.proofs.Pieces.{two_put}
 use borrow.Author.Rules.{rules}
 use Rattle.answer.proofs.put_two_bytes.Statement.{statement}
 use Rattle.answer.proofs.put_two_bytes.Tie as tie
@@ -28,7 +28,7 @@ same_length : tie.Need-same-length
 same_length c = search rules
 
 returns : tie.Need-returns
-returns c = two-put _ _ _ _
+returns c = two_put _ _ _ _
 
 pub put-two-bytes-spec : {M : Type 1} → statement M
 put-two-bytes-spec =

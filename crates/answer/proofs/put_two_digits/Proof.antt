@@ -1,6 +1,6 @@
 -- `answer::put_two_digits` meets its contract. The two bytes of the number that is made are the two digits. Assumes nothing.
 use Rattle.answer.proofs.Pieces.{put_as}
-use Rattle.answer.proofs.Digits.{two-digits-spelt}
+use Rattle.answer.proofs.Digits.{two_digits_spelt}
 use borrow.Author.Rules.{rules}
 use Rattle.answer.proofs.put_two_digits.Statement.{statement}
 use Rattle.answer.proofs.put_two_digits.Tie as tie
@@ -29,7 +29,7 @@ same_length c = search rules
 returns : tie.Need-returns
 returns c =
     put_as
-    (two-digits-spelt c.before.before.before.before.before.before.args.number _ c.before.before.before.before.before.before.requires.1
+    (two_digits_spelt c.before.before.before.before.before.before.args.number _ c.before.before.before.before.before.before.requires.1
     c.before.before.before.tenth.ensures)
     c.before.before.put-two-bytes.ensures
 

@@ -1,5 +1,5 @@
 -- `answer::put_value` meets its contract. Two texts of four bytes. Assumes nothing.
-use Rattle.answer.specs.Line.{said_of, tailOf}
+use Rattle.answer.specs.Line.{said_of, tail_of}
 use Rattle.answer.proofs.Pieces.{put_then}
 use borrow.Author.Rules.{rules}
 use Rattle.answer.proofs.put_value.Statement.{statement}
@@ -27,7 +27,7 @@ same_length : tie.Need-same-length
 same_length c = search rules
 
 returns : tie.Need-returns
-unfolding said_of tailOf
+unfolding said_of tail_of
 returns c = put_then c.before.before.before.before.before.before.put-text.ensures c.before.before.put-text2.ensures
 
 pub put-value-spec : {M : Type 1} → statement M

@@ -2,7 +2,7 @@
 use native.Mathlib.Omega.{arith}
 use Rattle.answer.specs.Line.{line_of}
 use Rattle.answer.proofs.Pieces.{put_then}
-use Rattle.answer.proofs.Digits.{decimal-length-le}
+use Rattle.answer.proofs.Digits.{decimal_length_le}
 use borrow.Author.Rules.{rules}
 use Rattle.answer.proofs.put_whole.Statement.{statement}
 use Rattle.answer.proofs.put_whole.Tie as tie
@@ -11,7 +11,7 @@ put-decimal-requires : tie.Need-put-decimal-requires
 put-decimal-requires c κs = search rules
 
 put-tail-requires : tie.Need-put-tail-requires
-put-tail-requires c κs = omega (arith, decimal-length-le 19 c.before.before.before.before.before.before.args.number (omega arith))
+put-tail-requires c κs = omega (arith, decimal_length_le 19 c.before.before.before.before.before.before.args.number (omega arith))
 
 same_length : tie.Need-same-length
 same_length c = search rules
@@ -23,7 +23,7 @@ returns c = (
   omega (
     arith,
     c.before.before.before.before.before.before.put-decimal.ensures.next,
-    decimal-length-le 19 c.before.before.before.before.before.before.before.before.before.args.number (omega arith),
+    decimal_length_le 19 c.before.before.before.before.before.before.before.before.before.args.number (omega arith),
   ),
 )
 

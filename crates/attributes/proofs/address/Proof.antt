@@ -1,5 +1,5 @@
 use Rattle.std.proofs.Common.{[], sym, rules}
-use Rattle.attributes.proofs.FlatLaws.{address_read, address-past}
+use Rattle.attributes.proofs.FlatLaws.{address_read, address_past}
 use Rattle.attributes.proofs.address.Statement.{statement}
 use Rattle.attributes.proofs.address.Tie as tie
 
@@ -43,7 +43,7 @@ returns : tie.Need-returns
 returns c = address_read [] _ _ c.before.before.before.before.before.before.if1.true
 
 returns-2 : tie.Need-returns-2
-returns-2 c = sym (address-past [] _ _ c.if1.false)
+returns-2 c = sym (address_past [] _ _ c.if1.false)
 
 pub address_spec : {M : Type 1} → statement M
 address_spec =

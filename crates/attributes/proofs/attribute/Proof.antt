@@ -1,5 +1,5 @@
 use Rattle.std.proofs.Common.{sym, rules}
-use Rattle.attributes.proofs.FlatLaws.{stretch-whole, stretch-short, stretch-past, stretch-none}
+use Rattle.attributes.proofs.FlatLaws.{stretch_whole, stretch_short, stretch_past, stretch_none}
 use Rattle.attributes.proofs.attribute.Statement.{statement}
 use Rattle.attributes.proofs.attribute.Tie as tie
 
@@ -25,7 +25,7 @@ part-result-end : tie.Need-slice-bounds-result-end
 part-result-end c = search rules
 
 returns : tie.Need-returns
-returns c = stretch-whole _ _ _ c.before.before.before.place.ensures c.before.before.before.before.if1.true
+returns c = stretch_whole _ _ _ c.before.before.before.place.ensures c.before.before.before.before.if1.true
 
 mul-result-2 : tie.Need-overflow-mul-result-2
 mul-result-2 c = search rules
@@ -40,19 +40,19 @@ part-result-end-2 : tie.Need-slice-bounds-result-end-2
 part-result-end-2 c = search rules
 
 returns-2 : tie.Need-returns-2
-returns-2 c = stretch-short _ _ _ c.before.before.before.place.ensures c.before.before.before.before.if1.true c.before.if3.false
+returns-2 c = stretch_short _ _ _ c.before.before.before.place.ensures c.before.before.before.before.if1.true c.before.if3.false
 
 slice-aggregate-result : tie.Need-slice-aggregate-result
 slice-aggregate-result c = search rules
 
 returns-3 : tie.Need-returns-3
-returns-3 c = stretch-past _ _ _ c.before.before.place.ensures c.before.before.before.if1.true c.before.if2.false
+returns-3 c = stretch_past _ _ _ c.before.before.place.ensures c.before.before.before.if1.true c.before.if2.false
 
 slice-aggregate-result-2 : tie.Need-slice-aggregate-result-2
 slice-aggregate-result-2 c = search rules
 
 returns-4 : tie.Need-returns-4
-returns-4 c = sym (stretch-none _ _ c.before.if1.false)
+returns-4 c = sym (stretch_none _ _ c.before.if1.false)
 
 pub attribute-spec : {M : Type 1} → statement M
 attribute-spec =

@@ -1,7 +1,7 @@
 use Rattle.std.proofs.Common.{ℕ, refl, ap, rules}
 use lib.Bits.{bit_and, bit_or}
-use Rattle.attributes.specs.Counts.{countedFor}
-use Rattle.attributes.proofs.CountLaws.{class_low, Masks, tallied, then, counting-as}
+use Rattle.attributes.specs.Counts.{counted_for}
+use Rattle.attributes.proofs.CountLaws.{class_low, Masks, tallied, then, counting_as}
 use Rattle.attributes.proofs.count.Statement.{statement}
 use Rattle.attributes.proofs.count.Tie as tie
 
@@ -56,13 +56,13 @@ returns c =
     record {
       own_is = ap (λ (s : ℕ). bit_and s (bit_or a.due.heard a.due.cut)) c.before.before.before.before.before.before.before.before.before.before.before.before.before.before.before.before.before.before.before.before.before.before.before.before.before.before.before.only.ensures;
       framed_is = c.before.before.before.before.before.before.before.before.before.before.before.before.before.before.before.before.before.before.before.before.before.before.before.before.before.those.ensures;
-      crowd-is = c.before.before.before.before.before.before.before.before.before.before.before.before.before.before.before.before.before.before.before.before.before.before.before.before.those2.ensures;
+      crowd_is = c.before.before.before.before.before.before.before.before.before.before.before.before.before.before.before.before.before.before.before.before.before.before.before.before.those2.ensures;
       late_is = c.before.before.before.before.before.before.before.before.before.before.before.before.before.before.before.before.before.before.before.before.before.before.those3.ensures;
-      long-is = c.before.before.before.before.before.before.before.before.before.before.before.before.before.before.before.before.before.before.before.before.those4.ensures;
-      mistimed-is = c.before.before.before.before.before.before.before.before.before.before.before.before.before.before.before.before.before.those5.ensures;
-      changed-is = refl;
+      long_is = c.before.before.before.before.before.before.before.before.before.before.before.before.before.before.before.before.before.before.before.before.those4.ensures;
+      mistimed_is = c.before.before.before.before.before.before.before.before.before.before.before.before.before.before.before.before.before.those5.ensures;
+      changed_is = refl;
     } in
-    counting-as (countedFor a.due a.burst) (λ r i h k. tallied _ _ _ _ _ _ _ _ _ m i k c.before.before.before.before.before.before.before.before.before.before.before.before.before.before.before.before.before.before.before.before.before.before.before.before.before.before.before.before.before.requires r h)
+    counting_as (counted_for a.due a.burst) (λ r i h k. tallied _ _ _ _ _ _ _ _ _ m i k c.before.before.before.before.before.before.before.before.before.before.before.before.before.before.before.before.before.before.before.before.before.before.before.before.before.before.before.before.before.requires r h)
     (then (then (then (then (then (then (then c.before.before.before.before.before.before.before.before.before.before.before.before.before.before.before.bump.ensures c.before.before.before.before.before.before.before.before.before.before.before.before.before.bump2.ensures) c.before.before.before.before.before.before.before.before.before.before.before.bump3.ensures) c.before.before.before.before.before.before.before.before.before.bump4.ensures) c.before.before.before.before.before.before.before.bump5.ensures)
     c.before.before.before.before.before.bump6.ensures) c.before.before.before.bump7.ensures) c.bump8.ensures)
 

@@ -1,4 +1,4 @@
-use Rattle.attributes.proofs.CountLaws.{class-due, credit-made}
+use Rattle.attributes.proofs.CountLaws.{class_due, credit_made}
 use Rattle.std.proofs.Common.{rules}
 use Rattle.attributes.proofs.credit.Statement.{statement}
 use Rattle.attributes.proofs.credit.Tie as tie
@@ -7,7 +7,7 @@ due-of-requires : tie.Need-due-of-requires
 due-of-requires c κs = search rules
 
 count-requires : tie.Need-count-requires
-count-requires c κs = let a = c.before.before.before.args in class-due a.met a.burst a.source a.counters.now a.addresses.now _ c.before.due-of.ensures
+count-requires c κs = let a = c.before.before.before.args in class_due a.met a.burst a.source a.counters.now a.addresses.now _ c.before.due-of.ensures
 
 framed-port-requires : tie.Need-framed-port-requires
 framed-port-requires c κs = search rules
@@ -16,7 +16,7 @@ readdress-requires : tie.Need-readdress-requires
 readdress-requires c κs = search rules
 
 returns : tie.Need-returns
-returns c = credit-made _ _ _ _ _ _ c.before.before.before.before.before.due-of.ensures _ _ _ c.before.before.before.count.ensures c.before.framed-port.ensures c.readdress.ensures
+returns c = credit_made _ _ _ _ _ _ c.before.before.before.before.before.due-of.ensures _ _ _ c.before.before.before.count.ensures c.before.framed-port.ensures c.readdress.ensures
 
 pub credit-spec : {M : Type 1} → statement M
 credit-spec =

@@ -1,4 +1,4 @@
-use Rattle.attributes.specs.Credits.{dueOf}
+use Rattle.attributes.specs.Credits.{due_of}
 use Rattle.std.proofs.Common.{rules}
 use Rattle.attributes.proofs.due_of.Statement.{statement}
 use Rattle.attributes.proofs.due_of.Tie as tie
@@ -16,7 +16,7 @@ amount-requires : tie.Need-amount-requires
 amount-requires c κs = search rules
 
 returns : tie.Need-returns
-unfolding dueOf
+unfolding due_of
 returns c =
     rw (
       c.amount.ensures,

@@ -1,14 +1,14 @@
 use Rattle.std.proofs.Common.{◌-◌, ◌≤◌, arith, rules}
-use Rattle.attributes.specs.Nine.{counterCount}
-use Rattle.attributes.proofs.CountLaws.{Lays, laid_none, laid_more, laid-all}
+use Rattle.attributes.specs.Nine.{counter_count}
+use Rattle.attributes.proofs.CountLaws.{Lays, laid_none, laid_more, laid_all_lem}
 use Rattle.attributes.proofs.lay.Statement.{statement}
 use Rattle.attributes.proofs.lay.Tie as tie
 
 abbrev invariant-loop : tie.invariant-loop
-invariant-loop counters₀ i numbers r₀ counters r = (r ≤ counterCount) × Lays i numbers counters₀ r counters
+invariant-loop counters₀ i numbers r₀ counters r = (r ≤ counter_count) × Lays i numbers counters₀ r counters
 
 abbrev decreases-loop : tie.decreases-loop
-decreases-loop counters₀ i numbers r₀ counters r = counterCount - r
+decreases-loop counters₀ i numbers r₀ counters r = counter_count - r
 
 loop-holds : tie.Need-loop-init invariant-loop decreases-loop
 loop-holds c = (search rules, laid_none _ _ _)
@@ -40,7 +40,7 @@ loop-again c =
     (omega arith, rw c.place.ensures (laid_more _ _ _ _ _ (search rules) (search rules) l.invariant.1))
 
 returns : tie.Need-returns invariant-loop decreases-loop
-returns c = laid-all _ _ _ _ _ c.loop-test.false c.before.loop.invariant.1
+returns c = laid_all_lem _ _ _ _ _ c.loop-test.false c.before.loop.invariant.1
 
 pub lay-spec : {M : Type 1} → statement M
 lay-spec =

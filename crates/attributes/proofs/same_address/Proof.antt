@@ -1,5 +1,5 @@
 use Rattle.std.proofs.Common.{refl, rules}
-use Rattle.attributes.specs.Credits.{sameAddress}
+use Rattle.attributes.specs.Credits.{same_address}
 use Rattle.attributes.proofs.same_address.Statement.{statement}
 use Rattle.attributes.proofs.same_address.Tie as tie
 
@@ -40,7 +40,7 @@ array-read-result-12 : tie.Need-array-read-result-12
 array-read-result-12 c = search rules
 
 returns : tie.Need-returns
-unfolding sameAddress
+unfolding same_address
 returns c = refl
 
 pub same-address-spec : {M : Type 1} → statement M

@@ -1,5 +1,5 @@
 use Rattle.std.proofs.Common.{◌-◌, ◌≤◌, arith, rules}
-use Rattle.attributes.proofs.CountLaws.{Wrote, wrote_none, wrote-more, wrote-all}
+use Rattle.attributes.proofs.CountLaws.{Wrote, wrote_none, wrote_more, wrote_all}
 use Rattle.attributes.proofs.write_address.Statement.{statement}
 use Rattle.attributes.proofs.write_address.Tie as tie
 
@@ -31,10 +31,10 @@ loop-less : tie.Need-loop-smaller invariant-loop decreases-loop
 loop-less c = search rules
 
 loop-again : tie.Need-loop-preserved invariant-loop decreases-loop
-loop-again c = let l = c.before.loop in (omega arith, wrote-more _ _ _ _ _ (search rules) (search rules) l.invariant.1)
+loop-again c = let l = c.before.loop in (omega arith, wrote_more _ _ _ _ _ (search rules) (search rules) l.invariant.1)
 
 returns : tie.Need-returns invariant-loop decreases-loop
-returns c = wrote-all _ _ _ _ _ c.loop-test.false c.before.loop.invariant.1
+returns c = wrote_all _ _ _ _ _ c.loop-test.false c.before.loop.invariant.1
 
 pub write-address-spec : {M : Type 1} → statement M
 write-address-spec =

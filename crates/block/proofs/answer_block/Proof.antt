@@ -1,10 +1,10 @@
 use Rattle.std.proofs.Common.{◌-◌, length, get_or, ◌∙◌, arith, w32, Fits, rules}
 use Rattle.attributes.specs.Flat.{Fit}
-use Rattle.himib.proofs.FlatLaws.{addressed-any}
+use Rattle.himib.proofs.FlatLaws.{addressed_any}
 use Rattle.block.specs.Block.{Work, standing}
 use Rattle.block.specs.Turns.{Stands, Reading}
-use Rattle.block.proofs.BlockLaws.{begins, ends, fills, turned, step-burst, step-quiet, step-reset, step-refused}
-use Rattle.block.proofs.BlockLaws.{step-c-write, step-d-write, step-c-read, step-d-read}
+use Rattle.block.proofs.BlockLaws.{begins, ends, fills, turned, step_burst, step_quiet, step_reset, step_refused}
+use Rattle.block.proofs.BlockLaws.{step_c_write, step_d_write, step_c_read, step_d_read}
 use Rattle.block.proofs.answer_block.Statement.{statement}
 use Rattle.block.proofs.answer_block.Tie as tie
 
@@ -97,7 +97,7 @@ loop-again c =
     let m = c.before.before.before.before.before.before.before.before.before.before.before in
     let k = reading m in
     let w = c.before.before.before.before.before.burst.ensures in
-    (turned k (step-burst k c.before.before.before.before.before.before.before.before.before.asked.given.1 (w.is (fit m))) c.before.before.put-line.ensures, w.fine (fit m))
+    (turned k (step_burst k c.before.before.before.before.before.before.before.before.before.asked.given.1 (w.is (fit m))) c.before.before.put-line.ensures, w.fine (fit m))
 
 enum-known-asked-2 : tie.Need-enum-known-asked-2 invariant-loop decreases-loop
 enum-known-asked-2 c = search rules
@@ -115,7 +115,7 @@ loop-again-2 : tie.Need-loop-preserved-2 invariant-loop decreases-loop
 loop-again-2 c =
     let m = c.before.before.before.before.before.before.before.before in
     let k = reading m in
-    (turned k (step-quiet k c.before.before.before.before.before.before.asked2.given.1 c.before.before.before.before.pass.ensures) c.before.before.put-line2.ensures, fit m)
+    (turned k (step_quiet k c.before.before.before.before.before.before.asked2.given.1 c.before.before.before.before.pass.ensures) c.before.before.put-line2.ensures, fit m)
 
 enum-known-asked-3 : tie.Need-enum-known-asked-3 invariant-loop decreases-loop
 enum-known-asked-3 c = search rules
@@ -136,7 +136,7 @@ loop-again-3 : tie.Need-loop-preserved-3 invariant-loop decreases-loop
 loop-again-3 c =
     let m = c.before.before.before.before.before.before.before.before.before.before.before in
     let k = reading m in
-    (turned k (step-c-write k c.before.before.before.before.before.before.before.before.before.asked3.given.1 c.before.before.before.before.before.before.a.given.1 c.before.before.before.before.select.ensures) c.before.before.put-line3.ensures, fit m)
+    (turned k (step_c_write k c.before.before.before.before.before.before.before.before.before.asked3.given.1 c.before.before.before.before.before.before.a.given.1 c.before.before.before.before.select.ensures) c.before.before.put-line3.ensures, fit m)
 
 enum-known-a-2 : tie.Need-enum-known-a-2 invariant-loop decreases-loop
 enum-known-a-2 c = search rules
@@ -159,8 +159,8 @@ loop-again-4 c =
     let k = reading m in
     let w = c.before.before.before.before.readdress.ensures in (
       turned k
-          (step-d-write k c.before.before.before.before.before.before.before.before.before.before.before.before.before.before.asked3.given.1 c.before.before.before.before.before.before.before.before.before.before.before.a2.given.1 c.before.before.before.before.before.before.before.before.before.write-d.ensures
-          (w.is (fit m).spots _ ∙ addressed-any _ _ _ _))
+          (step_d_write k c.before.before.before.before.before.before.before.before.before.before.before.before.before.before.asked3.given.1 c.before.before.before.before.before.before.before.before.before.before.before.a2.given.1 c.before.before.before.before.before.before.before.before.before.write_d.ensures
+          (w.is (fit m).spots _ ∙ addressed_any _ _ _ _))
           c.before.before.put-line4.ensures,
       record { counters = (fit m).counters; spots = w.fine ∙ (fit m).spots },
     )
@@ -181,7 +181,7 @@ loop-again-5 : tie.Need-loop-preserved-5 invariant-loop decreases-loop
 loop-again-5 c =
     let m = c.before.before.before.before.before.before.before.before.before.before.before in
     let k = reading m in
-    (turned k (step-c-read k c.before.before.before.before.before.before.before.before.before.asked3.given.1 c.before.before.before.before.before.before.enum_told.given.1 c.before.before.before.before.before.read-c.ensures) c.before.before.put-line5.ensures, fit m)
+    (turned k (step_c_read k c.before.before.before.before.before.before.before.before.before.asked3.given.1 c.before.before.before.before.before.before.enum_told.given.1 c.before.before.before.before.before.read-c.ensures) c.before.before.put-line5.ensures, fit m)
 
 enum-told-2 : tie.Need-enum-told-2 invariant-loop decreases-loop
 enum-told-2 c = search rules
@@ -199,7 +199,7 @@ loop-again-6 : tie.Need-loop-preserved-6 invariant-loop decreases-loop
 loop-again-6 c =
     let m = c.before.before.before.before.before.before.before.before.before.before.before.before.before.before in
     let k = reading m in
-    (turned k (step-d-read k c.before.before.before.before.before.before.before.before.before.before.before.before.asked3.given.1 c.before.before.before.before.before.before.before.before.before.enum-told2.given.1 c.before.before.before.before.before.before.read-d.ensures) c.before.before.put-line6.ensures, fit m)
+    (turned k (step_d_read k c.before.before.before.before.before.before.before.before.before.before.before.before.asked3.given.1 c.before.before.before.before.before.before.before.before.before.enum-told2.given.1 c.before.before.before.before.before.before.read-d.ensures) c.before.before.put-line6.ensures, fit m)
 
 enum-told-3 : tie.Need-enum-told-3 invariant-loop decreases-loop
 enum-told-3 c = search rules
@@ -220,7 +220,7 @@ loop-again-7 : tie.Need-loop-preserved-7 invariant-loop decreases-loop
 loop-again-7 c =
     let m = c.before.before.before.before.before.before.before.before in
     let k = reading m in
-    (turned k (step-reset k c.before.before.before.before.before.before.enum-told3.given.1 c.before.before.before.before.before.reset.ensures c.before.before.before.before.power-up.ensures) c.before.before.put-line7.ensures, fit m)
+    (turned k (step_reset k c.before.before.before.before.before.before.enum-told3.given.1 c.before.before.before.before.before.reset.ensures c.before.before.before.before.power-up.ensures) c.before.before.put-line7.ensures, fit m)
 
 enum-known-asked-4 : tie.Need-enum-known-asked-4 invariant-loop decreases-loop
 enum-known-asked-4 c = search rules
@@ -235,7 +235,7 @@ loop-again-8 : tie.Need-loop-preserved-8 invariant-loop decreases-loop
 loop-again-8 c =
     let m = c.before.before.before.before.before.before.before in
     let k = reading m in
-    (turned k (step-refused k c.before.before.before.before.before.asked4.given.1) c.before.before.put-line8.ensures, fit m)
+    (turned k (step_refused k c.before.before.before.before.before.asked4.given.1) c.before.before.put-line8.ensures, fit m)
 
 same_length : tie.Need-same-length invariant-loop decreases-loop
 same_length c = search rules

@@ -1,7 +1,7 @@
 use Rattle.std.proofs.Common.{refl, ap, ◌∙◌, rules}
 use Rattle.answer.specs.declared.Answer.{Answer}
-use Rattle.answer.specs.Put.{afterLine, withLine}
-use Rattle.block.proofs.BlockLaws.{piece-refused}
+use Rattle.answer.specs.Put.{after_line, with_line}
+use Rattle.block.proofs.BlockLaws.{piece_refused}
 use Rattle.block.proofs.answer_piece.Statement.{statement}
 use Rattle.block.proofs.answer_piece.Tie as tie
 
@@ -20,8 +20,8 @@ returns-2 c =
     let args = c.before.before.before.before.before.before.before.args in
     record {
       line = λ n p. (
-        put.next ∙ ap (λ (a : Answer). afterLine args.out.now 0 args.number a) (piece-refused p args.piece.now n),
-        put.bytes ∙ ap (λ (a : Answer). withLine args.out.now 0 args.number a) (piece-refused p args.piece.now n),
+        put.next ∙ ap (λ (a : Answer). after_line args.out.now 0 args.number a) (piece_refused p args.piece.now n),
+        put.bytes ∙ ap (λ (a : Answer). with_line args.out.now 0 args.number a) (piece_refused p args.piece.now n),
       );
       none = λ e. absurd (c.before.before.before.before.if1.false e);
     }

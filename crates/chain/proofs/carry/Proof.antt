@@ -1,5 +1,5 @@
 use borrow.Author.Rules.{rules}
-use Rattle.chain.proofs.ChainLaws.{stays, goes_on, sets-out}
+use Rattle.chain.proofs.ChainLaws.{stays, goes_on, sets_out}
 use Rattle.chain.proofs.carry.Statement.{statement}
 use Rattle.chain.proofs.carry.Tie as tie
 
@@ -29,7 +29,7 @@ total-of-requires c κs = search rules
 returns-3 : tie.Need-returns-3
 returns-3 c =
     let chain = c.before.before.before.before.before.args.chain in
-    sets-out chain _ _ c.before.before.before.if1.false c.before.if2.false c.total_of.ensures
+    sets_out chain _ _ c.before.before.before.if1.false c.before.if2.false c.total_of.ensures
 
 pub carry-spec : {M : Type 1} → statement M
 carry-spec =

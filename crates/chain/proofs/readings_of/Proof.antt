@@ -2,7 +2,7 @@ use Prim.Native.Nat.{◌-◌, ◌/◌}
 use mathlib.Core.Path.{refl}
 use borrow.Author.Rules.{rules}
 use lib.ListN.{length}
-use Rattle.chain.specs.Chain.{readingLength}
+use Rattle.chain.specs.Chain.{reading_length}
 use Rattle.chain.proofs.Loops.{Made, made_none, made_more, made_all}
 use Rattle.chain.proofs.readings_of.Statement.{statement}
 use Rattle.chain.proofs.readings_of.Tie as tie
@@ -11,7 +11,7 @@ abbrev invariant-loop : tie.invariant-loop
 invariant-loop piece readings₀ n i₀ readings i = Made piece readings i
 
 abbrev decreases-loop : tie.decreases-loop
-decreases-loop piece readings₀ n i₀ readings i = length piece / readingLength - i
+decreases-loop piece readings₀ n i₀ readings i = length piece / reading_length - i
 
 loop-holds : tie.Need-loop-init invariant-loop decreases-loop
 loop-holds c = made_none _ _ refl

@@ -1,4 +1,4 @@
-use Rattle.changes.specs.Changes.{eventsOf}
+use Rattle.changes.specs.Changes.{events_of}
 use borrow.Author.Rules.{rules}
 use Rattle.changes.proofs.events.Statement.{statement}
 use Rattle.changes.proofs.events.Tie as tie
@@ -25,7 +25,7 @@ aui-bit-requires-2 : tie.Need-aui-bit-requires-2
 aui-bit-requires-2 c κs = search rules
 
 returns : tie.Need-returns
-unfolding eventsOf
+unfolding events_of
 returns c =
     rw (
       c.before.before.before.before.before.before.tp-byte.ensures,

@@ -1,5 +1,5 @@
 use Rattle.std.proofs.Common.{ℕ, ◌+◌, ◌%◌, ◌^◌, ap, ◌∙◌, rules}
-use Rattle.tally.specs.Tally.{Tally, cameTo}
+use Rattle.tally.specs.Tally.{Tally, came_to}
 use Rattle.export.proofs.take_more.Statement.{statement}
 use Rattle.export.proofs.take_more.Tie as tie
 
@@ -13,7 +13,7 @@ returns : tie.Need-returns
 returns c =
     let t = c.before.before.before.before.take_all in
     let state = c.before.before.before.before.before.before.before.before.before.before.before.args.state in
-    ap (λ (n : ℕ). record { point = (cameTo t.result).point; refused = n }) c.wrapping-add-u64.ensures
+    ap (λ (n : ℕ). record { point = (came_to t.result).point; refused = n }) c.wrapping-add-u64.ensures
     ∙ ap (λ (w : Tally). record { point = w.point; refused = (state.refused + w.refused) % 2 ^ 64 }) t.ensures
 
 pub take-more-spec : {M : Type 1} → statement M

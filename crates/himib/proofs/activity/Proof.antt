@@ -1,10 +1,10 @@
 use mathlib.Core.Path.{refl}
-use Rattle.himib.specs.Bursts.{activityOf}
+use Rattle.himib.specs.Bursts.{activity_of}
 use Rattle.himib.proofs.activity.Statement.{statement}
 use Rattle.himib.proofs.activity.Tie as tie
 
 returns : tie.Need-returns
-unfolding activityOf
+unfolding activity_of
 returns c = refl
 
 pub activity-spec : {M : Type 1} → statement M

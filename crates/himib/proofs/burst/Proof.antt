@@ -1,5 +1,5 @@
 use Rattle.chip.specs.Chip.{moved}
-use Rattle.himib.specs.Bursts.{burstCore, notedOn, burstOn}
+use Rattle.himib.specs.Bursts.{burst_core, noted_on, burst_on}
 use borrow.Author.Rules.{rules}
 use Rattle.himib.proofs.burst.Statement.{statement}
 use Rattle.himib.proofs.burst.Tie as tie
@@ -29,7 +29,7 @@ total-requires : tie.Need-total-requires
 total-requires c κs = search rules
 
 returns : tie.Need-returns
-unfolding burstOn notedOn burstCore moved
+unfolding burst_on noted_on burst_core moved
 returns c =
     let w = c.before.before.credit.ensures in
     record {

@@ -1,4 +1,4 @@
-use Rattle.himib.proofs.FlatLaws.{follows-as, follows-quiet, follows-reset, follows-refused}
+use Rattle.himib.proofs.FlatLaws.{follows_as, follows_quiet, follows_reset, follows_refused}
 use borrow.Author.Rules.{rules}
 use Rattle.himib.proofs.follow.Statement.{statement}
 use Rattle.himib.proofs.follow.Tie as tie
@@ -37,19 +37,19 @@ turn-away-requires : tie.Need-turn-away-requires
 turn-away-requires c κs = search rules
 
 returns : tie.Need-returns
-returns c = follows-as c.before.before.before.before.asked.given.1 c.follow-burst.ensures
+returns c = follows_as c.before.before.before.before.asked.given.1 c.follow-burst.ensures
 
 returns-2 : tie.Need-returns-2
-returns-2 c = follows-as c.before.before.asked2.given.1 (follows-quiet _ _ _ _ _ _ _ c.pass.ensures)
+returns-2 c = follows_as c.before.before.asked2.given.1 (follows_quiet _ _ _ _ _ _ _ c.pass.ensures)
 
 returns-3 : tie.Need-returns-3
-returns-3 c = follows-as c.before.before.before.before.asked3.given.1 c.follow-access.ensures
+returns-3 c = follows_as c.before.before.before.before.asked3.given.1 c.follow-access.ensures
 
 returns-4 : tie.Need-returns-4
-returns-4 c = follows-as c.before.before.enum_told.given.1 (follows-reset _ _ _ _ _ _ _ c.before.reset.ensures c.power-up.ensures)
+returns-4 c = follows_as c.before.before.enum_told.given.1 (follows_reset _ _ _ _ _ _ _ c.before.reset.ensures c.power-up.ensures)
 
 returns-5 : tie.Need-returns-5
-returns-5 c = follows-as c.before.before.asked4.given.1 (rw c.turn-away.ensures (follows-refused _ _ _ _ _ _))
+returns-5 c = follows_as c.before.before.asked4.given.1 (rw c.turn-away.ensures (follows_refused _ _ _ _ _ _))
 
 pub follow-spec : {M : Type 1} → statement M
 follow-spec =

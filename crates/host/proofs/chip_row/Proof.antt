@@ -1,7 +1,7 @@
 -- `host::chip_row` meets its contract. Assumes nothing.
 use mathlib.Core.Path.{sym, ◌∙◌}
 use Rattle.host.specs.Map.{row_at, table}
-use Rattle.host.proofs.Pages.{chip-unlisted}
+use Rattle.host.proofs.Pages.{chip_unlisted}
 use borrow.Author.Rules.{rules}
 use Rattle.host.proofs.chip_row.Statement.{statement}
 use Rattle.host.proofs.chip_row.Tie as tie
@@ -47,7 +47,7 @@ returns-5 c = rw c.before.match.keys5 c.both.ensures
 returns-6 : tie.Need-returns-6
 returns-6 c =
     let r = c.before.match.rest in
-    c.unlisted.ensures ∙ sym (chip-unlisted _ r.0.0.0.0.1 r.0.0.0.1 r.0.0.1 r.0.1 r.1)
+    c.unlisted.ensures ∙ sym (chip_unlisted _ r.0.0.0.0.1 r.0.0.0.1 r.0.0.1 r.0.1 r.1)
 
 pub chip-row-spec : {M : Type 1} → statement M
 chip-row-spec =

@@ -2,7 +2,7 @@
 use mathlib.Core.Path.{sym, ◌∙◌}
 use Rattle.host.specs.Map.{table}
 use Rattle.host.specs.Stands.{row_of}
-use Rattle.host.proofs.Pages.{enable-listed, enable-unlisted}
+use Rattle.host.proofs.Pages.{enable_listed, enable_unlisted}
 use borrow.Author.Rules.{rules}
 use Rattle.host.proofs.enable_row.Statement.{statement}
 use Rattle.host.proofs.enable_row.Tie as tie
@@ -15,13 +15,13 @@ both-requires c κs = search rules
 
 returns : tie.Need-returns
 unfolding row_of table
-returns c = c.both.ensures ∙ sym (enable-listed _ (sym c.before.before.has-bits.ensures ∙ c.before.if1.true))
+returns c = c.both.ensures ∙ sym (enable_listed _ (sym c.before.before.has-bits.ensures ∙ c.before.if1.true))
 
 unlisted-requires : tie.Need-unlisted-requires
 unlisted-requires c κs = search rules
 
 returns-2 : tie.Need-returns-2
-returns-2 c = c.unlisted.ensures ∙ sym (enable-unlisted _ (sym c.before.before.has-bits.ensures ∙ c.before.if1.false))
+returns-2 c = c.unlisted.ensures ∙ sym (enable_unlisted _ (sym c.before.before.has-bits.ensures ∙ c.before.if1.false))
 
 pub enable-row-spec : {M : Type 1} → statement M
 enable-row-spec =

@@ -2,7 +2,7 @@
 use mathlib.Core.Path.{sym, ◌∙◌}
 use mathlib.Core.Logic.{⊎_elim}
 use native.Mathlib.Omega.{arith}
-use Rattle.host.proofs.Pages.{tp-page, aui-page, no-page}
+use Rattle.host.proofs.Pages.{tp_page, aui_page_lem, no_page}
 use borrow.Author.Rules.{rules}
 use Rattle.host.proofs.row_at.Statement.{statement}
 use Rattle.host.proofs.row_at.Tie as tie
@@ -38,16 +38,16 @@ returns-3 : tie.Need-returns-3
 returns-3 c = rw c.before.match.keys3 c.enable-row.ensures
 
 returns-4 : tie.Need-returns-4
-returns-4 c = rw c.before.match.keys4 (c.port-row.ensures ∙ sym (aui-page _))
+returns-4 c = rw c.before.match.keys4 (c.port-row.ensures ∙ sym (aui_page_lem _))
 
 returns-5 : tie.Need-returns-5
-returns-5 c = c.port-row2.ensures ∙ sym (tp-page _ _ c.before.before.if1.false c.before.if2.true)
+returns-5 c = c.port-row2.ensures ∙ sym (tp_page _ _ c.before.before.if1.false c.before.if2.true)
 
 returns-6 : tie.Need-returns-6
 returns-6 c =
     let r = c.before.before.match.rest in
     c.unlisted.ensures
-    ∙ sym (no-page _ _ r.0.0.0.1 r.0.0.1 r.0.1
+    ∙ sym (no_page _ _ r.0.0.0.1 r.0.0.1 r.0.1
     (λ l u. ⊎_elim (λ h. omega (arith, h.taken)) (λ h. omega (arith, h.1.left)) c.before.if1.branch)
     r.1)
 

@@ -1,5 +1,5 @@
 -- `host::write_byte` meets its contract. Assumes nothing.
-use Rattle.host.proofs.Places.{write-made}
+use Rattle.host.proofs.Places.{write_made}
 use borrow.Author.Rules.{rules}
 use Rattle.host.proofs.write_byte.Statement.{statement}
 use Rattle.host.proofs.write_byte.Tie as tie
@@ -18,7 +18,7 @@ next-place-requires c κs = search rules
 
 returns : tie.Need-returns
 returns c =
-    write-made _ _ _ _ _ _ _
+    write_made _ _ _ _ _ _ _
     c.before.before.before.before.place-for.ensures
     c.before.before.with_byte.ensures
     c.next_place.ensures

@@ -36,9 +36,9 @@ use Rattle.host.specs.declared.Host.{Host}
 use Rattle.host.specs.contracts.Host as Hst
 use Rattle.answer.proofs.Answer.TheLaws as Ans'
 use Rattle.chip.specs.declared.FlatChip.{FlatChip}
-use Rattle.chip.specs.Flat.{chipOf}
+use Rattle.chip.specs.Flat.{chip_of}
 use Rattle.himib.specs.declared.Left.{Left}
-use Rattle.himib.specs.Flat.{steppedBy}
+use Rattle.himib.specs.Flat.{stepped_by}
 use Rattle.chip.specs.contracts.FlatChip as Chp
 use Rattle.chip.proofs.FlatChip.TheLaws as Chp'
 use Rattle.himib.specs.contracts.Left as Lef
@@ -50,8 +50,8 @@ use Rattle.lent.specs.declared.Rest.{Rest}
 use Rattle.lent.specs.Lent.{requested}
 use Rattle.lent.specs.contracts.Rest as Rst
 use Rattle.lent.proofs.Rest.TheLaws as Rst'
-use Rattle.lent.proofs.Walk.{hostVal, chipVal, requestVal, answer_val, chipTy, requestTy, restTy, lent_at}
-use Rattle.lent.proofs.Walk.{chipFits, requestFits, restFits, hostOwned, chipOwned, requestOwned, restOwned}
+use Rattle.lent.proofs.Walk.{host_val, chip_val, request_val, answer_val, chip_ty, request_ty, rest_ty, lent_at}
+use Rattle.lent.proofs.Walk.{chip_fits, request_fits, rest_fits, host_owned, chip_owned, request_owned, rest_owned}
 use Rattle.lent.proofs.TakeOut.{made, left, takes}
 use Rattle.lent.specs.contracts.take_by_value as g
 use Rattle.lent.proofs.take_by_value.Symbol as g-def
@@ -65,25 +65,25 @@ use Rattle.lent.proofs.take.Code as code
 abbrev stayed : Stays (f.ended).signature.params (f.ended).kept
 stayed = (stay_ref (0 ∷ []) tt (plain (λ _. Hst.the_row)), (stay_dropped (plain (λ _. Chp.the_row)) yes, (stay_dropped (plain (λ _. Rqs.the_row)) yes, tt)))
 
-abbrev stepVal : Left → Val
-stepVal = LL.val Lef.the_type Lef'.the_laws
+abbrev step_val : Left → Val
+step_val = LL.val Lef.the_type Lef'.the_laws
 
 -- that of its parts, and of what goes to the result
-step-parts : (s : Left) → stepVal s ≡ made (chipVal s.chip) (hostVal s.host) (answer_val s.answer)
-step-parts s = refl
+step_parts : (s : Left) → step_val s ≡ made (chip_val s.chip) (host_val s.host) (answer_val s.answer)
+step_parts s = refl
 
 abbrev rest_of : Left → Val
-rest_of s = left (chipVal s.chip) (answer_val s.answer)
+rest_of s = left (chip_val s.chip) (answer_val s.answer)
 
 -- of what `take_by_value` returns, what comes back beside the record; and what is known of its parts
 abbrev rest : Left → Rest
 rest s = record { chip = s.chip; answer = s.answer }
 
-rest-is : (s : Left) {v : Val} → Is Lef.the_row s (v ∷ []) → Is Rst.the_row (rest s) (rest_of s ∷ [])
-rest-is s is = let parts = LL.owed Lef.the_type Lef'.the_laws s _ is in LL.owes Rst.the_type Rst'.the_laws (rest s) (parts.0, parts.1.1)
+rest_is : (s : Left) {v : Val} → Is Lef.the_row s (v ∷ []) → Is Rst.the_row (rest s) (rest_of s ∷ [])
+rest_is s is = let parts = LL.owed Lef.the_type Lef'.the_laws s _ is in LL.owes Rst.the_type Rst'.the_laws (rest s) (parts.0, parts.1.1)
 
-host-is : (s : Left) {v : Val} → Is Lef.the_row s (v ∷ []) → Is Hst.the_row s.host (hostVal s.host ∷ [])
-host-is s is = (LL.owed Lef.the_type Lef'.the_laws s _ is).1.0
+host_is : (s : Left) {v : Val} → Is Lef.the_row s (v ∷ []) → Is Hst.the_row s.host (host_val s.host ∷ [])
+host_is s is = (LL.owed Lef.the_type Lef'.the_laws s _ is).1.0
 
 module _ {M : Type 1} {𝓤 : Ura M} (𝓛 : Logic 𝓤) (at_mem : Memory → SProp 𝓤) (run : Routine → Fun 𝓤) where
   abbrev G : Contract 𝓤
@@ -92,24 +92,24 @@ module _ {M : Type 1} {𝓤 : Ura M} (𝓛 : Logic 𝓤) (at_mem : Memory → SP
   abbrev Ensured : Host → FlatChip → Record → Left → SProp 𝓤
   Ensured h c r s = ensured 𝓛 g.ended (g.clauses 𝓛 at_mem run) tt (h, (c, (r, tt))) tt s
 
-  said : (h : Host) (c : FlatChip) (r : Record) (s : Left) → ent 𝓤 (Ensured h c r s) (fact 𝓤 (steppedBy s ≡ requested r (chipOf c) h))
-  said h c r s = ex_e 𝓤 _ (λ ws. snd∗ 𝓤 (sem 𝓛 (lasts g.ended tt (h, (c, (r, tt))) ws)) (fact 𝓤 (steppedBy s ≡ requested r (chipOf c) h)))
+  said : (h : Host) (c : FlatChip) (r : Record) (s : Left) → ent 𝓤 (Ensured h c r s) (fact 𝓤 (stepped_by s ≡ requested r (chip_of c) h))
+  said h c r s = ex_e 𝓤 _ (λ ws. snd∗ 𝓤 (sem 𝓛 (lasts g.ended tt (h, (c, (r, tt))) ws)) (fact 𝓤 (stepped_by s ≡ requested r (chip_of c) h)))
 
 module _ {M : Type 1} {𝓤 : Ura M} (𝓛 : Logic 𝓤) (at_mem : Memory → SProp 𝓤) (run : Routine → Fun 𝓤)
-    (κ : Lft) (q : Share) (b o : ℕ) (γ : GName) (h : Host) (c : FlatChip) (gc : Is Chp.the_row c (chipVal c ∷ [])) (r : Record)
-    (gr : Is Rqs.the_row r (requestVal r ∷ [])) where
+    (κ : Lft) (q : Share) (b o : ℕ) (γ : GName) (h : Host) (c : FlatChip) (gc : Is Chp.the_row c (chip_val c ∷ [])) (r : Record)
+    (gr : Is Rqs.the_row r (request_val r ∷ [])) where
   open 𝓛 use {H, A}
 
   abbrev x : MutBor Host × (FlatChip × (Record × Unit {0}))
   x = (lent_at b o γ h, (c, (r, tt)))
 
   abbrev at : List Val × (List Val × (List Val × Unit {0}))
-  at = (vptr b o ∷ [], (chipVal c ∷ [], (requestVal r ∷ [], tt)))
+  at = (vptr b o ∷ [], (chip_val c ∷ [], (request_val r ∷ [], tt)))
 
   abbrev Post : Val → SProp 𝓤
   Post = (walk_of 𝓛 f.ended stayed (f.clauses 𝓛 at_mem run)).post (((κ, tt), (q, tt), tt, x, at), tt)
 
-  exits : (s : Left) (w : Val) → steppedBy s ≡ requested r (chipOf c) h → Is Rst.the_row (rest s) (w ∷ [])
+  exits : (s : Left) (w : Val) → stepped_by s ≡ requested r (chip_of c) h → Is Rst.the_row (rest s) (w ∷ [])
       → ent 𝓤 (sep 𝓤 (A.obs γ ((Hst.the_row).coded.code s.host)) (sep 𝓤 (A.bor κ (Body (mem Hst.the_row) b o γ)) (A.lft κ q))) (Post w)
   exits s w e is =
       qed 𝓛 (‵ (fobs γ ((Hst.the_row).coded.code s.host)) ∷ ‵ (fbor κ (Body (mem Hst.the_row) b o γ)) ∷ ‵ (flft κ q) ∷ []) ∵
@@ -117,27 +117,27 @@ module _ {M : Type 1} {𝓤 : Ura M} (𝓛 : Logic 𝓤) (at_mem : Memory → SP
       (ends_at 𝓛 f.ended stayed (f.clauses 𝓛 at_mem run) (((κ, tt), (q, tt), tt, x, at), tt) w (rest s) (s.host, (tt, (tt, tt)))
       (tt, (tt, (tt, tt)))) $
       says ! e $ nothing ! $ move ! (3 ∷ 0 ∷ []) $ join ! $ frame ! $ feq_i ! (List Val) (vptr b o ∷ []) (vptr b o ∷ []) refl $ fjoin3 ! $
-      nothing ! $ nothing ! $ fjoin ! $ nothing ! $ fjoin ! $ move ! (1 ∷ 0 ∷ []) $ fjoin ! $ frame ! $ restOwned 𝓛 ! (rest s) w is $ done !
+      nothing ! $ nothing ! $ fjoin ! $ nothing ! $ fjoin ! $ move ! (1 ∷ 0 ∷ []) $ fjoin ! $ frame ! $ rest_owned 𝓛 ! (rest s) w is $ done !
 
   -- what the call binds outside, and that what it asks is had
-  abbrev to-g : (G 𝓛 at_mem run).Ghost
-  to-g = ((tt, tt, tt, (h, (c, (r, tt))), (hostVal h ∷ [], (chipVal c ∷ [], (requestVal r ∷ [], tt)))), tt)
+  abbrev to_g : (G 𝓛 at_mem run).Ghost
+  to_g = ((tt, tt, tt, (h, (c, (r, tt))), (host_val h ∷ [], (chip_val c ∷ [], (request_val r ∷ [], tt)))), tt)
 
-  goes-g : Is Hst.the_row h (hostVal h ∷ []) → ent 𝓤 (emp 𝓤) ((G 𝓛 at_mem run).pre to-g)
-  goes-g was =
-      qed 𝓛 [] ∵ nothing ! $ requestOwned 𝓛 ! r (requestVal r) gr $ fjoin ! $ chipOwned 𝓛 ! c (chipVal c) gc $ fjoin ! $
-      hostOwned 𝓛 ! h (hostVal h) was $ fjoin ! $ nothing ! $ join ! $ frame ! $ done !
+  goes_g : Is Hst.the_row h (host_val h ∷ []) → ent 𝓤 (emp 𝓤) ((G 𝓛 at_mem run).pre to_g)
+  goes_g was =
+      qed 𝓛 [] ∵ nothing ! $ request_owned 𝓛 ! r (request_val r) gr $ fjoin ! $ chip_owned 𝓛 ! c (chip_val c) gc $ fjoin ! $
+      host_owned 𝓛 ! h (host_val h) was $ fjoin ! $ nothing ! $ join ! $ frame ! $ done !
 
   module _ (C : Calls 𝓤 H) (Λ : Loops 𝓤 H) (fm : FmC 𝓤 H 𝓛.laws C) (known : Triple 𝓤 (C #g) (G 𝓛 at_mem run)) where
-    walk : ent 𝓤 (on_entry 𝓛 f.signature (κ, tt) (q, tt) x at) (WpFn 𝓤 H C Λ code.function (vptr b o ∷ chipVal c ∷ requestVal r ∷ []) Post)
+    walk : ent 𝓤 (on_entry 𝓛 f.signature (κ, tt) (q, tt) x at) (WpFn 𝓤 H C Λ code.function (vptr b o ∷ chip_val c ∷ request_val r ∷ []) Post)
     walk =
-        takes 𝓛 C Λ _ restTy chipTy requestTy Ans'.mir κ q b o γ h (chipVal c) (requestVal r) Post
-        Lef.the_row (λ s. s.host) (λ s. chipVal s.chip) (λ s. hostVal s.host) (λ s. answer_val s.answer)
-        (Ensured 𝓛 at_mem run h c r) (λ s. steppedBy s ≡ requested r (chipOf c) h) (said 𝓛 at_mem run h c r)
+        takes 𝓛 C Λ _ rest_ty chip_ty request_ty Ans'.mir κ q b o γ h (chip_val c) (request_val r) Post
+        Lef.the_row (λ s. s.host) (λ s. chip_val s.chip) (λ s. host_val s.host) (λ s. answer_val s.answer)
+        (Ensured 𝓛 at_mem run h c r) (λ s. stepped_by s ≡ requested r (chip_of c) h) (said 𝓛 at_mem run h c r)
         (λ s v is. ((LL.lawful Lef.the_type Lef'.the_laws 𝓛).typed s _ is).0)
-        (λ s v is. ap only (LL.tells Lef.the_type Lef'.the_laws s _ is) ∙ step-parts s)
-        (λ s v is. host-is s is) (λ s v is. restFits 𝓛 (rest s) (rest_of s) (rest-is s is)) (λ s v e is. exits s (rest_of s) e (rest-is s is))
-        fm ((G 𝓛 at_mem run).pre to-g) goes-g (known to-g) (chipFits 𝓛 c (chipVal c) gc) (requestFits 𝓛 r (requestVal r) gr)
+        (λ s v is. ap only (LL.tells Lef.the_type Lef'.the_laws s _ is) ∙ step_parts s)
+        (λ s v is. host_is s is) (λ s v is. rest_fits 𝓛 (rest s) (rest_of s) (rest_is s is)) (λ s v e is. exits s (rest_of s) e (rest_is s is))
+        fm ((G 𝓛 at_mem run).pre to_g) goes_g (known to_g) (chip_fits 𝓛 c (chip_val c) gc) (request_fits 𝓛 r (request_val r) gr)
         (owns (Chp.the_row ∷ Rqs.the_row ∷ []) x.1 at.1)
 
 module _ {M : Type 1} {𝓤 : Ura M} (𝓛 : Logic 𝓤) (at_mem : Memory → SProp 𝓤) (run : Routine → Fun 𝓤) where

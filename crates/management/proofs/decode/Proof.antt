@@ -1,5 +1,5 @@
 use borrow.Author.Tests.{ne_eqb}
-use Rattle.management.specs.Commands.{commandOf, row_of}
+use Rattle.management.specs.Commands.{command_of, row_of}
 use borrow.Author.Rules.{rules}
 use Rattle.management.proofs.decode.Statement.{statement}
 use Rattle.management.proofs.decode.Tie as tie
@@ -8,59 +8,59 @@ decode-row-requires : tie.Need-decode-row-requires
 decode-row-requires c κs = search rules
 
 returns : tie.Need-returns
-unfolding commandOf
+unfolding command_of
 returns c = rw c.match.keys1
 
 returns-2 : tie.Need-returns-2
-unfolding commandOf
+unfolding command_of
 returns-2 c = rw c.match.keys2
 
 returns-3 : tie.Need-returns-3
-unfolding commandOf
+unfolding command_of
 returns-3 c = rw c.match.keys3
 
 returns-4 : tie.Need-returns-4
-unfolding commandOf
+unfolding command_of
 returns-4 c = rw c.match.keys4
 
 returns-5 : tie.Need-returns-5
-unfolding commandOf
+unfolding command_of
 returns-5 c = rw c.match.keys5
 
 returns-6 : tie.Need-returns-6
-unfolding commandOf
+unfolding command_of
 returns-6 c = rw c.match.keys6
 
 returns-7 : tie.Need-returns-7
-unfolding commandOf
+unfolding command_of
 returns-7 c = rw c.match.keys7
 
 returns-8 : tie.Need-returns-8
-unfolding commandOf
+unfolding command_of
 returns-8 c = rw c.match.keys8
 
 returns-9 : tie.Need-returns-9
-unfolding commandOf
+unfolding command_of
 returns-9 c = rw c.match.keys9
 
 returns-10 : tie.Need-returns-10
-unfolding commandOf
+unfolding command_of
 returns-10 c = rw c.match.keys10
 
 returns-11 : tie.Need-returns-11
-unfolding commandOf
+unfolding command_of
 returns-11 c = rw c.match.keys11
 
 returns-12 : tie.Need-returns-12
-unfolding commandOf
+unfolding command_of
 returns-12 c = rw c.match.keys12
 
 returns-13 : tie.Need-returns-13
-unfolding commandOf
+unfolding command_of
 returns-13 c = rw c.match.keys13
 
 returns-14 : tie.Need-returns-14
-unfolding commandOf row_of
+unfolding command_of row_of
 returns-14 c =
     let r = c.before.match.rest in simp (
       ne_eqb _ _ r.1,

@@ -2,7 +2,7 @@
 use mathlib.Core.Path.{ap, ◌∙◌}
 use borrow.Author.Rules.{rules}
 use Rattle.spelling.specs.Spelling.{spelt}
-use Rattle.record.proofs.Numbers.{four-from}
+use Rattle.record.proofs.Numbers.{four_from}
 use Rattle.record.proofs.number32.Statement.{statement}
 use Rattle.record.proofs.number32.Tie as tie
 
@@ -31,7 +31,7 @@ four-requires : tie.Need-four-requires
 four-requires c κs = search rules
 
 returns : tie.Need-returns
-returns c = c.four.ensures ∙ ap spelt (four-from _ _)
+returns c = c.four.ensures ∙ ap spelt (four_from _ _)
 
 pub number32-spec : {M : Type 1} → statement M
 number32-spec =

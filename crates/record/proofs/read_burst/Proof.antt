@@ -2,7 +2,7 @@
 use mathlib.Core.Path.{sym, ◌∙◌}
 use borrow.Author.Rules.{rules}
 use borrow.Author.Tests.{le-leb, lt-leb}
-use Rattle.record.proofs.Cases.{burst-stray, burst-high, burst-bad, burst-still, burst-taken}
+use Rattle.record.proofs.Cases.{burst_stray, burst_high, burst_bad, burst_still, burst_taken}
 use Rattle.record.proofs.read_burst.Statement.{statement}
 use Rattle.record.proofs.read_burst.Tie as tie
 
@@ -17,7 +17,7 @@ returns c =
     let stray = c.before.before in
     let start = stray.before.before in
     c.refused.ensures
-    ∙ burst-stray _ start.requires.0 start.requires.1 (sym stray.stray-burst.ensures ∙ c.before.if1.true)
+    ∙ burst_stray _ start.requires.0 start.requires.1 (sym stray.stray_burst.ensures ∙ c.before.if1.true)
 
 read-requires : tie.Need-read-requires
 read-requires c κs = search rules
@@ -31,7 +31,7 @@ returns-2 c =
     let stray = read.before.before in
     let start = stray.before.before in
     c.refused2.ensures
-    ∙ burst-high _ start.requires.0 start.requires.1 (sym stray.stray-burst.ensures ∙ read.before.if1.false) _ read.read.ensures
+    ∙ burst_high _ start.requires.0 start.requires.1 (sym stray.stray_burst.ensures ∙ read.before.if1.false) _ read.read.ensures
     (le-leb _ _ c.before.if2.true)
 
 bad-numbers-requires : tie.Need-bad-numbers-requires
@@ -47,7 +47,7 @@ returns-3 c =
     let stray = read.before.before in
     let start = stray.before.before in
     c.refused3.ensures
-    ∙ burst-bad _ start.requires.0 start.requires.1 (sym stray.stray-burst.ensures ∙ read.before.if1.false) _ read.read.ensures
+    ∙ burst_bad _ start.requires.0 start.requires.1 (sym stray.stray_burst.ensures ∙ read.before.if1.false) _ read.read.ensures
     (lt-leb _ _ bad.before.if2.false)
     (sym bad.bad-numbers.ensures ∙ c.before.if3.true)
 
@@ -65,7 +65,7 @@ returns-4 c =
     let stray = read.before.before in
     let start = stray.before.before in
     c.refused4.ensures
-    ∙ burst-still _ start.requires.0 start.requires.1 (sym stray.stray-burst.ensures ∙ read.before.if1.false) _ read.read.ensures
+    ∙ burst_still _ start.requires.0 start.requires.1 (sym stray.stray_burst.ensures ∙ read.before.if1.false) _ read.read.ensures
     (lt-leb _ _ bad.before.if2.false)
     (sym bad.bad-numbers.ensures ∙ still.before.if3.false)
     (sym still.nothing-active.ensures ∙ c.before.if4.true)
@@ -81,7 +81,7 @@ returns-5 c =
     let stray = read.before.before in
     let start = stray.before.before in
     c.accepted.ensures
-    ∙ burst-taken _ start.requires.0 start.requires.1 (sym stray.stray-burst.ensures ∙ read.before.if1.false) _ read.read.ensures
+    ∙ burst_taken _ start.requires.0 start.requires.1 (sym stray.stray_burst.ensures ∙ read.before.if1.false) _ read.read.ensures
     (lt-leb _ _ bad.before.if2.false)
     (sym bad.bad-numbers.ensures ∙ still.before.if3.false)
     (sym still.nothing-active.ensures ∙ c.before.if4.false)

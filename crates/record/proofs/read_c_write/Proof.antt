@@ -1,7 +1,7 @@
 -- `record::read_c_write` meets its contract. Assumes nothing.
 use mathlib.Core.Path.{sym, ◌∙◌}
 use borrow.Author.Rules.{rules}
-use Rattle.record.proofs.Cases.{c-write-stray, c-write-lost, c-write-taken}
+use Rattle.record.proofs.Cases.{c_write_stray, c_write_lost, c_write_taken}
 use Rattle.record.proofs.read_c_write.Statement.{statement}
 use Rattle.record.proofs.read_c_write.Tie as tie
 
@@ -16,7 +16,7 @@ returns c =
     let stray = c.before.before in
     let start = stray.before.before in
     c.refused.ensures
-    ∙ c-write-stray _ start.requires.0 start.requires.1 (sym stray.stray-write.ensures ∙ c.before.if1.true)
+    ∙ c_write_stray _ start.requires.0 start.requires.1 (sym stray.stray_write.ensures ∙ c.before.if1.true)
 
 shared-slice-read-selects-neither : tie.Need-shared-slice-read-selects-neither
 shared-slice-read-selects-neither c = search rules
@@ -33,7 +33,7 @@ returns-2 c =
     let stray = neither.before.before.before in
     let start = stray.before.before in
     c.refused2.ensures
-    ∙ c-write-lost _ start.requires.0 start.requires.1 (sym stray.stray-write.ensures ∙ neither.before.before.if1.false)
+    ∙ c_write_lost _ start.requires.0 start.requires.1 (sym stray.stray_write.ensures ∙ neither.before.before.if1.false)
     (sym neither.selects-neither.ensures ∙ c.before.if2.true)
 
 shared-slice-read-t5 : tie.Need-shared-slice-read-t5
@@ -48,7 +48,7 @@ returns-3 c =
     let stray = neither.before.before.before in
     let start = stray.before.before in
     c.accepted.ensures
-    ∙ c-write-taken _ start.requires.0 start.requires.1 (sym stray.stray-write.ensures ∙ neither.before.before.if1.false)
+    ∙ c_write_taken _ start.requires.0 start.requires.1 (sym stray.stray_write.ensures ∙ neither.before.before.if1.false)
     (sym neither.selects-neither.ensures ∙ c.before.before.if2.false)
 
 pub read-c-write-spec : {M : Type 1} → statement M

@@ -1,7 +1,7 @@
 -- `record::read_d_write` meets its contract. Assumes nothing.
 use mathlib.Core.Path.{sym, ◌∙◌}
 use borrow.Author.Rules.{rules}
-use Rattle.record.proofs.Cases.{d-write}
+use Rattle.record.proofs.Cases.{d_write_lem}
 use Rattle.record.proofs.read_d_write.Statement.{statement}
 use Rattle.record.proofs.read_d_write.Tie as tie
 
@@ -16,7 +16,7 @@ returns c =
     let stray = c.before.before in
     let start = stray.before.before in
     c.refused.ensures
-    ∙ rw (sym stray.stray-write.ensures ∙ c.before.if1.true) at (d-write start.args.bytes.now start.requires.0 start.requires.1)
+    ∙ rw (sym stray.stray_write.ensures ∙ c.before.if1.true) at (d_write_lem start.args.bytes.now start.requires.0 start.requires.1)
 
 shared-slice-read-t4 : tie.Need-shared-slice-read-t4
 shared-slice-read-t4 c = search rules
@@ -29,7 +29,7 @@ returns-2 c =
     let stray = c.before.before.before in
     let start = stray.before.before in
     c.accepted.ensures
-    ∙ rw (sym stray.stray-write.ensures ∙ c.before.before.if1.false) at (d-write start.args.bytes.now start.requires.0 start.requires.1)
+    ∙ rw (sym stray.stray_write.ensures ∙ c.before.before.if1.false) at (d_write_lem start.args.bytes.now start.requires.0 start.requires.1)
 
 pub read-d-write-spec : {M : Type 1} → statement M
 read-d-write-spec =

@@ -2,7 +2,7 @@
 use mathlib.Core.Path.{sym, ◌∙◌}
 use borrow.Author.Rules.{rules}
 use borrow.Author.Tests.{le-leb, lt-leb}
-use Rattle.record.proofs.Cases.{pulse-stray, pulse-high, pulse-taken}
+use Rattle.record.proofs.Cases.{pulse_stray, pulse_high, pulse_taken}
 use Rattle.record.proofs.read_pulse.Statement.{statement}
 use Rattle.record.proofs.read_pulse.Tie as tie
 
@@ -17,7 +17,7 @@ returns c =
     let stray = c.before.before in
     let start = stray.before.before in
     c.refused.ensures
-    ∙ pulse-stray _ start.requires.0 start.requires.1 (sym stray.stray-pulse.ensures ∙ c.before.if1.true)
+    ∙ pulse_stray _ start.requires.0 start.requires.1 (sym stray.stray_pulse.ensures ∙ c.before.if1.true)
 
 number16-requires : tie.Need-number16-requires
 number16-requires c κs = search rules
@@ -31,7 +31,7 @@ returns-2 c =
     let stray = mask.before.before in
     let start = stray.before.before in
     c.refused2.ensures
-    ∙ pulse-high _ start.requires.0 start.requires.1 (sym stray.stray-pulse.ensures ∙ mask.before.if1.false) _ mask.number16.ensures
+    ∙ pulse_high _ start.requires.0 start.requires.1 (sym stray.stray_pulse.ensures ∙ mask.before.if1.false) _ mask.number16.ensures
     (le-leb _ _ c.before.if2.true)
 
 accepted-requires : tie.Need-accepted-requires
@@ -43,7 +43,7 @@ returns-3 c =
     let stray = mask.before.before in
     let start = stray.before.before in
     c.accepted.ensures
-    ∙ pulse-taken _ start.requires.0 start.requires.1 (sym stray.stray-pulse.ensures ∙ mask.before.if1.false) _ mask.number16.ensures
+    ∙ pulse_taken _ start.requires.0 start.requires.1 (sym stray.stray_pulse.ensures ∙ mask.before.if1.false) _ mask.number16.ensures
     (lt-leb _ _ c.before.if2.false)
 
 pub read-pulse-spec : {M : Type 1} → statement M

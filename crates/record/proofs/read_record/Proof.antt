@@ -1,7 +1,7 @@
 -- `record::read_record` meets its contract. Assumes nothing.
 use mathlib.Core.Path.{◌∙◌}
 use borrow.Author.Rules.{rules}
-use Rattle.record.proofs.Cases.{wrong-length, tick, c_read, d-read, reset, unknown}
+use Rattle.record.proofs.Cases.{wrong_length, tick, c_read_lem, d_read_lem, reset, unknown}
 use Rattle.record.proofs.read_record.Statement.{statement}
 use Rattle.record.proofs.read_record.Tie as tie
 
@@ -9,7 +9,7 @@ refused-requires : tie.Need-refused-requires
 refused-requires c κs = search rules
 
 returns : tie.Need-returns
-returns c = c.refused.ensures ∙ wrong-length _ c.before.if1.true
+returns c = c.refused.ensures ∙ wrong_length _ c.before.if1.true
 
 shared-slice-read-match : tie.Need-shared-slice-read-match
 shared-slice-read-match c = search rules
@@ -57,10 +57,10 @@ returns-6 : tie.Need-returns-6
 returns-6 c = search rules
 
 returns-7 : tie.Need-returns-7
-returns-7 c = c.read-bare2.ensures ∙ c_read _ c.before.before.before.if1.false c.before.match.keys6
+returns-7 c = c.read-bare2.ensures ∙ c_read_lem _ c.before.before.before.if1.false c.before.match.keys6
 
 returns-8 : tie.Need-returns-8
-returns-8 c = c.read-bare3.ensures ∙ d-read _ c.before.before.before.if1.false c.before.match.keys7
+returns-8 c = c.read-bare3.ensures ∙ d_read_lem _ c.before.before.before.if1.false c.before.match.keys7
 
 returns-9 : tie.Need-returns-9
 returns-9 c = c.read-bare4.ensures ∙ reset _ c.before.before.before.if1.false c.before.match.keys8

@@ -1,5 +1,5 @@
 -- `record::stray_bare` meets its contract. Assumes nothing.
-use Rattle.record.proofs.Strays.{stray-bare}
+use Rattle.record.proofs.Strays.{stray_bare}
 use borrow.Author.Rules.{rules}
 use Rattle.record.proofs.stray_bare.Statement.{statement}
 use Rattle.record.proofs.stray_bare.Tie as tie
@@ -40,7 +40,7 @@ add-result-2 c = search rules
 returns : tie.Need-returns
 returns c =
     let l = c.before.before in
-    rw (stray-bare, c.long3.ensures.0, l.long2.ensures.0, l.before.long.ensures.0, c.before.before.before.before.before.four.ensures, c.before.before.before.before.number32.ensures, c.before.other-words.ensures)
+    rw (stray_bare, c.long3.ensures.0, l.long2.ensures.0, l.before.long.ensures.0, c.before.before.before.before.before.four.ensures, c.before.before.before.before.number32.ensures, c.before.other-words.ensures)
 
 pub stray-bare-spec : {M : Type 1} → statement M
 stray-bare-spec =

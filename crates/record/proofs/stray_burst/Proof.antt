@@ -1,7 +1,7 @@
 -- `record::stray_burst` meets its contract. Assumes nothing.
 use borrow.Author.Rules.{rules}
 use borrow.Author.Tests.{le-leb, lt-leb}
-use Rattle.record.proofs.Strays.{stray-burst}
+use Rattle.record.proofs.Strays.{stray_burst}
 use Rattle.record.proofs.stray_burst.Statement.{statement}
 use Rattle.record.proofs.stray_burst.Tie as tie
 
@@ -9,7 +9,7 @@ shared-slice-read-if1 : tie.Need-shared-slice-read-if1
 shared-slice-read-if1 c = search rules
 
 returns : tie.Need-returns
-returns c = simp (stray-burst, le-leb _ _ c.if1.true)
+returns c = simp (stray_burst, le-leb _ _ c.if1.true)
 
 shared-slice-read-result : tie.Need-shared-slice-read-result
 shared-slice-read-result c = search rules
@@ -27,7 +27,7 @@ shared-slice-read-result-5 : tie.Need-shared-slice-read-result-5
 shared-slice-read-result-5 c = search rules
 
 returns-2 : tie.Need-returns-2
-returns-2 c = simp (stray-burst, lt-leb _ _ c.before.before.before.before.before.if1.false)
+returns-2 c = simp (stray_burst, lt-leb _ _ c.before.before.before.before.before.if1.false)
 
 pub stray-burst-spec : {M : Type 1} → statement M
 stray-burst-spec =

@@ -1,5 +1,5 @@
 -- `record::stray_pulse` meets its contract. Assumes nothing.
-use Rattle.record.proofs.Strays.{stray-pulse}
+use Rattle.record.proofs.Strays.{stray_pulse}
 use borrow.Author.Rules.{rules}
 use Rattle.record.proofs.stray_pulse.Statement.{statement}
 use Rattle.record.proofs.stray_pulse.Tie as tie
@@ -34,7 +34,7 @@ add-result-2 c = search rules
 returns : tie.Need-returns
 returns c =
     let l = c.before.before in
-    rw (stray-pulse, c.long3.ensures.0, l.long2.ensures.0, l.before.long.ensures.0, c.before.before.before.before.before.four.ensures, c.before.before.before.before.number32.ensures, c.before.other-words.ensures)
+    rw (stray_pulse, c.long3.ensures.0, l.long2.ensures.0, l.before.long.ensures.0, c.before.before.before.before.before.four.ensures, c.before.before.before.before.number32.ensures, c.before.other-words.ensures)
 
 pub stray-pulse-spec : {M : Type 1} → statement M
 stray-pulse-spec =

@@ -1,5 +1,5 @@
 -- `record::stray_write` meets its contract. Assumes nothing.
-use Rattle.record.proofs.Strays.{stray-write}
+use Rattle.record.proofs.Strays.{stray_write}
 use borrow.Author.Rules.{rules}
 use Rattle.record.proofs.stray_write.Statement.{statement}
 use Rattle.record.proofs.stray_write.Tie as tie
@@ -49,7 +49,7 @@ add-result-2 c = search rules
 returns : tie.Need-returns
 returns c =
     let l = c.before.before in
-    rw (stray-write, c.long3.ensures.0, l.long2.ensures.0, l.before.long.ensures.0, c.before.before.before.before.before.before.before.before.four.ensures, c.before.before.before.before.four2.ensures, c.before.other-words.ensures)
+    rw (stray_write, c.long3.ensures.0, l.long2.ensures.0, l.before.long.ensures.0, c.before.before.before.before.before.before.before.before.four.ensures, c.before.before.before.before.four2.ensures, c.before.other-words.ensures)
 
 pub stray-write-spec : {M : Type 1} → statement M
 stray-write-spec =

@@ -1,4 +1,4 @@
-use Rattle.repeater.proofs.RepeaterLaws.{listening-made}
+use Rattle.repeater.proofs.RepeaterLaws.{listening_made}
 use borrow.Author.Rules.{rules}
 use Rattle.repeater.proofs.listening.Statement.{statement}
 use Rattle.repeater.proofs.listening.Tie as tie
@@ -13,7 +13,7 @@ less-requires : tie.Need-less-requires
 less-requires c κs = search rules
 
 returns : tie.Need-returns
-returns c = listening-made c.before.before.before.args.ports _ _ _ c.before.before.transmitting.ensures c.before.partitioned.ensures c.less.ensures
+returns c = listening_made c.before.before.before.args.ports _ _ _ c.before.before.transmitting.ensures c.before.partitioned.ensures c.less.ensures
 
 pub listening-spec : {M : Type 1} → statement M
 listening-spec =

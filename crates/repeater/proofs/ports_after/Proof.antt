@@ -1,4 +1,4 @@
-use Rattle.repeater.proofs.MeetingLaws.{after-made}
+use Rattle.repeater.proofs.MeetingLaws.{after_made}
 use borrow.Author.Rules.{rules}
 use Rattle.repeater.proofs.ports_after.Statement.{statement}
 use Rattle.repeater.proofs.ports_after.Tie as tie
@@ -24,7 +24,7 @@ revive-requires c κs = search rules
 returns : tie.Need-returns
 returns c =
     let a = c.before.before.before.before.before.before.args in
-    after-made a.for-aui a.for-tp a.hearing a.effect a.activity _ _ _ _ c.before.before.before.before.before.lasting.ensures c.before.before.before.before.reconnecting.ensures
+    after_made a.for-aui a.for-tp a.hearing a.effect a.activity _ _ _ _ c.before.before.before.before.before.lasting.ensures c.before.before.before.before.reconnecting.ensures
     c.before.before.before.reconnecting2.ensures c.before.before.algorithms.ensures _ _ _ c.before.meet.ensures c.revive.ensures
 
 pub ports-after-spec : {M : Type 1} → statement M

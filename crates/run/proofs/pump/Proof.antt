@@ -1,6 +1,6 @@
 use borrow.Author.Rules.{rules}
-use Rattle.record.specs.Record.{recordLength}
-use Rattle.run.specs.Kept.{bufferLength}
+use Rattle.record.specs.Record.{record_length}
+use Rattle.run.specs.Kept.{buffer_length}
 use lib.ListN.{length}
 use mathlib.Core.Path.{◌≡◌}
 use Prim.Native.Nat.{◌<◌}
@@ -8,7 +8,7 @@ use Rattle.run.proofs.pump.Statement.{statement}
 use Rattle.run.proofs.pump.Tie as tie
 
 abbrev invariant-loop : tie.invariant-loop
-invariant-loop buf₀ out₀ turns₀ s₀ have₀ going₀ buf out turns s have going = (have < recordLength) × (length buf ≡ bufferLength) × (length out ≡ bufferLength)
+invariant-loop buf₀ out₀ turns₀ s₀ have₀ going₀ buf out turns s have going = (have < record_length) × (length buf ≡ buffer_length) × (length out ≡ buffer_length)
 
 abbrev decreases-loop : tie.decreases-loop
 decreases-loop buf₀ out₀ turns₀ s₀ have₀ going₀ buf out turns s have going = turns

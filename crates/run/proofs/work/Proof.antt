@@ -2,7 +2,7 @@ use Prim.Native.Nat.{◌-◌, ◌≤◌}
 use native.Mathlib.Omega.{arith}
 use lib.ListN.{length, take, length-take}
 use mathlib.Core.Path.{refl}
-use Rattle.run.proofs.Leaving.{nothing-lost}
+use Rattle.run.proofs.Leaving.{nothing_lost}
 use borrow.Author.Rules.{rules}
 use Rattle.run.proofs.work.Statement.{statement}
 use Rattle.run.proofs.work.Tie as tie
@@ -40,7 +40,7 @@ returns c =
     let b = c.before.before.before.before.before.before.before.before.before in
     let s = b.before.before.before.before.before.before.before.before.before.before.before.before in
     let a = s.args in
-    nothing-lost a.state a.buf.now a.out.now _ _ a.total b.answer-block.result.at _ (search rules) (search rules) refl
+    nothing_lost a.state a.buf.now a.out.now _ _ a.total b.answer-block.result.at _ (search rules) (search rules) refl
     b.answer-block.ensures c.before.before.shift.ensures
 
 pub work-spec : {M : Type 1} → statement M

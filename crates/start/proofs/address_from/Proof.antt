@@ -5,7 +5,7 @@ use native.Mathlib.Omega.{arith}
 use lib.ListN.{get_or}
 use Rattle.ports.specs.Each.{done}
 use Rattle.ports.proofs.Each.{done_none, done_more, done_all}
-use Rattle.start.specs.Start.{addressFrom}
+use Rattle.start.specs.Start.{address_from}
 use Rattle.start.proofs.address_from.Statement.{statement}
 use Rattle.start.proofs.address_from.Tie as tie
 
@@ -37,7 +37,7 @@ loop-again : tie.Need-loop-preserved invariant-loop decreases-loop
 loop-again c = let l = c.before.before.loop in (omega arith, done_more _ _ _ _ 0 _ l.invariant.1 refl)
 
 returns : tie.Need-returns invariant-loop decreases-loop
-unfolding addressFrom
+unfolding address_from
 returns c = c.before.loop.invariant.1 ∙ done_all _ _ _ (omega arith)
 
 pub address-from-spec : {M : Type 1} → statement M

@@ -4,16 +4,16 @@ use borrow.Author.Rules.{rules}
 use native.Mathlib.Omega.{arith}
 use Rattle.ports.specs.Each.{done}
 use Rattle.ports.proofs.Each.{done_none, done_more, done_all}
-use Rattle.attributes.specs.Nine.{counterCount}
-use Rattle.start.specs.Start.{numberFrom, countersFrom}
+use Rattle.attributes.specs.Nine.{counter_count}
+use Rattle.start.specs.Start.{number_from, counters_from}
 use Rattle.start.proofs.counters_from.Statement.{statement}
 use Rattle.start.proofs.counters_from.Tie as tie
 
 abbrev invariant-loop : tie.invariant-loop
-invariant-loop s i out₀ r₀ out r = (r ≤ counterCount) × (out ≡ done (λ k none. numberFrom s (i + 4 * k)) r out₀)
+invariant-loop s i out₀ r₀ out r = (r ≤ counter_count) × (out ≡ done (λ k none. number_from s (i + 4 * k)) r out₀)
 
 abbrev decreases-loop : tie.decreases-loop
-decreases-loop s i out₀ r₀ out r = counterCount - r
+decreases-loop s i out₀ r₀ out r = counter_count - r
 
 loop-holds : tie.Need-loop-init invariant-loop decreases-loop
 loop-holds c = (search rules, done_none _ _)
@@ -43,7 +43,7 @@ loop-again : tie.Need-loop-preserved invariant-loop decreases-loop
 loop-again c = let l = c.before.before.loop in (omega arith, done_more _ _ _ _ 0 _ l.invariant.1 c.number-from.ensures)
 
 returns : tie.Need-returns invariant-loop decreases-loop
-unfolding countersFrom
+unfolding counters_from
 returns c = c.before.loop.invariant.1 ∙ done_all _ _ _ (omega arith)
 
 pub counters-from-spec : {M : Type 1} → statement M

@@ -1,4 +1,4 @@
-use Rattle.start.specs.Start.{portFrom}
+use Rattle.start.specs.Start.{port_from}
 use borrow.Author.Rules.{rules}
 use Rattle.start.proofs.port_from.Statement.{statement}
 use Rattle.start.proofs.port_from.Tie as tie
@@ -13,7 +13,7 @@ address-from-requires : tie.Need-address-from-requires
 address-from-requires c κs = search rules
 
 returns : tie.Need-returns
-unfolding portFrom
+unfolding port_from
 returns c = rw (c.before.counters-from.ensures, c.address-from.ensures)
 
 pub port-from-spec : {M : Type 1} → statement M

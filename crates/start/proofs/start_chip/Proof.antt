@@ -8,42 +8,42 @@ use lib.Dec.{eqb}
 use lib.ListN.{length, get_or}
 use Rattle.chip.specs.declared.Supply.{Supply}
 use Rattle.start.specs.declared.Started.{Started}
-use Rattle.start.specs.Start.{startSize, spareAt, chosenSize, fitsIn, supplyIn, nothingGiven, startedWith, startedOf}
+use Rattle.start.specs.Start.{start_size, spare_at, chosen_size, fits_in, supply_in, nothing_given, started_with, started_of}
 use borrow.Author.Rules.{rules}
 use Rattle.start.proofs.start_chip.Statement.{statement}
 use Rattle.start.proofs.start_chip.Tie as tie
 
 -- a file that fits has the counters and addresses
-long-enough : (s : List ℕ) → fitsIn s ≡ true → startSize ≤ length s
-unfolding fitsIn
-long-enough s = go (eqb (length s) startSize) (eqb (length s) chosenSize) refl refl
+long_enough : (s : List ℕ) → fits_in s ≡ true → start_size ≤ length s
+unfolding fits_in
+long_enough s = go (eqb (length s) start_size) (eqb (length s) chosen_size) refl refl
   where
-    go : (t u : Bool) → eqb (length s) startSize ≡ t → eqb (length s) chosenSize ≡ u → (t || (u && eqb (get_or s spareAt 0) 0)) ≡ true → startSize ≤ length s
-    go true u e f h = let k = eqb-true (length s) startSize e in omega arith
-    go false true e f h = let k = eqb-true (length s) chosenSize f in omega arith
+    go : (t u : Bool) → eqb (length s) start_size ≡ t → eqb (length s) chosen_size ≡ u → (t || (u && eqb (get_or s spare_at 0) 0)) ≡ true → start_size ≤ length s
+    go true u e f h = let k = eqb-true (length s) start_size e in omega arith
+    go false true e f h = let k = eqb-true (length s) chosen_size f in omega arith
     go false false e f h = absurd (true≢false (sym h))
 
 module _ (s : List ℕ) (t : Started) (given : Supply) where
-  with-file : fitsIn s ≡ true → t ≡ startedWith true given → given ≡ supplyIn s → t ≡ startedOf s
-  unfolding startedOf
-  with-file h e f = e ∙ rw (h, f)
+  with_file : fits_in s ≡ true → t ≡ started_with true given → given ≡ supply_in s → t ≡ started_of s
+  unfolding started_of
+  with_file h e f = e ∙ rw (h, f)
 
-  with_nothing : fitsIn s ≡ false → t ≡ startedWith false given → given ≡ nothingGiven → t ≡ startedOf s
-  unfolding startedOf
+  with_nothing : fits_in s ≡ false → t ≡ started_with false given → given ≡ nothing_given → t ≡ started_of s
+  unfolding started_of
   with_nothing h e f = e ∙ rw (h, f)
 
 fits-in-requires : tie.Need-fits-in-requires
 fits-in-requires c κs = search rules
 
 supply-in-requires : tie.Need-supply-in-requires
-supply-in-requires c κs = long-enough _ (sym c.before.fits_in.ensures ∙ c.if1.true)
+supply-in-requires c κs = long_enough _ (sym c.before.fits_in.ensures ∙ c.if1.true)
 
 open-with-requires : tie.Need-open-with-requires
 open-with-requires c κs = search rules
 
 returns : tie.Need-returns
 returns c =
-    with-file _ _ _ (sym c.before.before.before.fits_in.ensures ∙ c.before.before.if1.true) c.open-with.ensures c.before.supply_in.ensures
+    with_file _ _ _ (sym c.before.before.before.fits_in.ensures ∙ c.before.before.if1.true) c.open-with.ensures c.before.supply_in.ensures
 
 nothing-requires : tie.Need-nothing-requires
 nothing-requires c κs = search rules

@@ -1,4 +1,4 @@
-use Rattle.start.specs.Start.{supplyIn}
+use Rattle.start.specs.Start.{supply_in}
 use borrow.Author.Rules.{rules}
 use Rattle.start.proofs.supply_in.Statement.{statement}
 use Rattle.start.proofs.supply_in.Tie as tie
@@ -16,7 +16,7 @@ choices-in-requires : tie.Need-choices-in-requires
 choices-in-requires c κs = search rules
 
 returns : tie.Need-returns
-unfolding supplyIn
+unfolding supply_in
 returns c =
     rw (c.choices-in.ensures, c.before.number-from2.ensures, c.before.before.number-from.ensures, c.before.before.before.nine-in.ensures)
 

@@ -1,5 +1,5 @@
 use mathlib.Core.Path.{refl}
-use Rattle.store.proofs.RowLaws.{emptied-tick, emptied-pulse, emptied-collide, never}
+use Rattle.store.proofs.RowLaws.{emptied_tick, emptied_pulse, emptied_collide, never}
 use borrow.Author.Rules.{rules}
 use Rattle.store.proofs.emptied.Statement.{statement}
 use Rattle.store.proofs.emptied.Tie as tie
@@ -23,19 +23,19 @@ enum-told-5 : tie.Need-enum-told-5
 enum-told-5 c = search rules
 
 returns : tie.Need-returns
-returns c = emptied-tick _ _ c.enum_told.given.1 c.before.before.requires
+returns c = emptied_tick _ _ c.enum_told.given.1 c.before.before.requires
 
 returns-2 : tie.Need-returns-2
 returns-2 c = never _ _ _ c.enum-told2.given.1 refl c.before.before.requires
 
 returns-3 : tie.Need-returns-3
-returns-3 c = emptied-pulse _ _ c.enum-told3.given.1 c.before.before.requires
+returns-3 c = emptied_pulse _ _ c.enum-told3.given.1 c.before.before.requires
 
 returns-4 : tie.Need-returns-4
 returns-4 c = never _ _ _ c.enum-told4.given.1 refl c.before.before.requires
 
 returns-5 : tie.Need-returns-5
-returns-5 c = emptied-collide _ _ _ c.before.visit.given.1 c.before.before.before.requires
+returns-5 c = emptied_collide _ _ _ c.before.visit.given.1 c.before.before.before.requires
 
 returns-6 : tie.Need-returns-6
 returns-6 c = never _ _ _ c.enum-told5.given.1 refl c.before.before.requires

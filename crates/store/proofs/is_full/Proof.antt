@@ -1,4 +1,4 @@
-use Rattle.store.proofs.RowLaws.{full-tick, full-pulse, full-collide}
+use Rattle.store.proofs.RowLaws.{full_tick, full_pulse, full_collide}
 use borrow.Author.Rules.{rules}
 use Rattle.store.proofs.is_full.Statement.{statement}
 use Rattle.store.proofs.is_full.Tie as tie
@@ -28,19 +28,19 @@ enum-told-5 : tie.Need-enum-told-5
 enum-told-5 c = search rules
 
 returns : tie.Need-returns
-returns c = full-tick _ _ c.before.enum_told.given.1
+returns c = full_tick _ _ c.before.enum_told.given.1
 
 returns-2 : tie.Need-returns-2
 returns-2 c = search rules
 
 returns-3 : tie.Need-returns-3
-returns-3 c = full-pulse _ _ c.before.enum-told3.given.1
+returns-3 c = full_pulse _ _ c.before.enum-told3.given.1
 
 returns-4 : tie.Need-returns-4
 returns-4 c = search rules
 
 returns-5 : tie.Need-returns-5
-returns-5 c = full-collide _ _ _ c.before.before.visit.given.1
+returns-5 c = full_collide _ _ _ c.before.before.visit.given.1
 
 returns-6 : tie.Need-returns-6
 returns-6 c = search rules

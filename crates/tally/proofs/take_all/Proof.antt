@@ -6,7 +6,7 @@ use lib.ListN.{length, get_or}
 use mir.Val.{Fits}
 use mir.Syntax.{w32}
 use Rattle.tally.specs.Tally.{standing}
-use Rattle.tally.proofs.TallyLaws.{Stands, begins, turned, ends, end_after, end-inside, refusal-low}
+use Rattle.tally.proofs.TallyLaws.{Stands, begins, turned, ends, end_after, end_inside, refusal_low}
 use Rattle.tally.proofs.take_all.Statement.{statement}
 use Rattle.tally.proofs.take_all.Tie as tie
 
@@ -22,7 +22,7 @@ after : (e : tie.After-end-of invariant-loop decreases-loop) → e.before.before
 after e = rw e.end_of_lem.ensures (end_after _ _ e.before.loop-test.true)
 
 within : (e : tie.After-end-of invariant-loop decreases-loop) → e.end_of_lem.result ≤ length e.before.before.before.before.args.input.now
-within e = rw e.end_of_lem.ensures (end-inside _ _ e.before.loop-test.true)
+within e = rw e.end_of_lem.ensures (end_inside _ _ e.before.loop-test.true)
 
 loop-holds : tie.Need-loop-init invariant-loop decreases-loop
 loop-holds c =
@@ -56,7 +56,7 @@ refusal-requires c κs = search rules
 add-refused : tie.Need-overflow-add-refused invariant-loop decreases-loop
 add-refused c =
     let e = c.before.before.before.before.before.before.before.before.before in
-    let low : c.refusal.result ≤ 1 = rw c.refusal.ensures (refusal-low _) in
+    let low : c.refusal.result ≤ 1 = rw c.refusal.ensures (refusal_low _) in
     omega (arith, e.before.before.loop.invariant.few, after e, low)
 
 loop-less : tie.Need-loop-smaller invariant-loop decreases-loop

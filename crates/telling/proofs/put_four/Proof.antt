@@ -2,7 +2,7 @@
 use native.Mathlib.Omega.{arith}
 use lib.ListN.{length-set}
 use borrow.Author.Rules.{rules}
-use Rattle.answer.proofs.Pieces.{four-put}
+use Rattle.answer.proofs.Pieces.{four_put}
 use Rattle.telling.proofs.put_four.Statement.{statement}
 use Rattle.telling.proofs.put_four.Tie as tie
 
@@ -34,7 +34,7 @@ same_length : tie.Need-same-length
 same_length c = search rules
 
 returns : tie.Need-returns
-returns c = four-put _ _ _ _ _ _
+returns c = four_put _ _ _ _ _ _
 
 pub put-four-spec : {M : Type 1} → statement M
 put-four-spec =

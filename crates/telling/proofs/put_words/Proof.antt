@@ -8,7 +8,7 @@ use lib.Seq.{take_all}
 use Rattle.answer.specs.Put.{Put}
 use Rattle.answer.proofs.Pieces.{put_as}
 use Rattle.telling.specs.Telling.{spelt}
-use Rattle.telling.proofs.TellingLaws.{spelt-none, spelt-more}
+use Rattle.telling.proofs.TellingLaws.{spelt_none, spelt_more}
 use Rattle.telling.proofs.put_words.Statement.{statement}
 use Rattle.telling.proofs.put_words.Tie as tie
 
@@ -20,7 +20,7 @@ abbrev decreases-loop : tie.decreases-loop
 decreases-loop out₀ at words next₀ i₀ out next i = 28 - i
 
 loop-holds : tie.Need-loop-init invariant-loop decreases-loop
-loop-holds c = (omega arith, refl, omega arith, spelt-none _ _)
+loop-holds c = (omega arith, refl, omega arith, spelt_none _ _)
 
 mul-word : tie.Need-overflow-mul-word invariant-loop decreases-loop
 mul-word c = search rules
@@ -42,7 +42,7 @@ loop-again c =
     let put = c.before.before in
     let l = put.before.before.before in
     let ws = l.before.before.args.t3 in
-    (omega arith, search rules, omega (arith, put.put_word.ensures.next), spelt-more ws l.loop.i (omega arith) l.loop.invariant.3 put.put_word.ensures)
+    (omega arith, search rules, omega (arith, put.put_word.ensures.next), spelt_more ws l.loop.i (omega arith) l.loop.invariant.3 put.put_word.ensures)
 
 same_length : tie.Need-same-length invariant-loop decreases-loop
 same_length c = search rules

@@ -1,6 +1,6 @@
 -- `telling::status_of` meets its contract. Assumes nothing.
 use borrow.Author.Rules.{rules}
-use Rattle.access.proofs.AccessLaws.{bit7-le}
+use Rattle.access.proofs.AccessLaws.{bit7_le}
 use Rattle.telling.proofs.status_of.Statement.{statement}
 use Rattle.telling.proofs.status_of.Tie as tie
 
@@ -14,7 +14,7 @@ wide-requires : tie.Need-wide-requires
 wide-requires c κs = search rules
 
 with-error-requires : tie.Need-with-error-requires
-with-error-requires c κs = rw (c.wide.ensures, c.before.bit-7.ensures) (bit7-le c.before.before.is-pending.result)
+with-error-requires c κs = rw (c.wide.ensures, c.before.bit-7.ensures) (bit7_le c.before.before.is-pending.result)
 
 returns : tie.Need-returns
 returns c = rw (c.with-error.ensures, c.before.wide.ensures, c.before.before.bit-7.ensures, c.before.before.before.is-pending.ensures)

@@ -1,6 +1,6 @@
 -- `telling::tell` meets its contract. A step, its words and its line. Assumes nothing.
 use borrow.Author.Rules.{rules}
-use Rattle.telling.proofs.TellingLaws.{told-made}
+use Rattle.telling.proofs.TellingLaws.{told_made}
 use Rattle.telling.proofs.tell.Statement.{statement}
 use Rattle.telling.proofs.tell.Tie as tie
 
@@ -21,7 +21,7 @@ returns c =
     let put = c.before.before in
     let words = put.before.before in
     let step = words.before.before.before in
-    told-made _ _ _ _ _ _ _ step.step.result _ _ step.step.ensures words.words_of.ensures put.put-told.ensures
+    told_made _ _ _ _ _ _ _ step.step.result _ _ step.step.ensures words.words_of.ensures put.put-told.ensures
 
 pub tell-spec : {M : Type 1} → statement M
 tell-spec =

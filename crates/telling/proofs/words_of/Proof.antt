@@ -2,7 +2,7 @@
 use mathlib.Core.Path.{refl}
 use borrow.Author.Rules.{rules}
 use Rattle.telling.specs.Telling.{words_of}
-use Rattle.telling.proofs.TellingLaws.{both-same, both-moved}
+use Rattle.telling.proofs.TellingLaws.{both_same, both_moved}
 use Rattle.telling.proofs.words_of.Statement.{statement}
 use Rattle.telling.proofs.words_of.Tie as tie
 
@@ -120,7 +120,7 @@ returns c =
     let partitioned = k1.before in
     let linked = partitioned.before in
     let enabled = linked.before in
-    both-same enabled.enabled.ensures (both-same linked.linked.ensures (both-same partitioned.partitioned.ensures (both-same k1.change.ensures (both-same k2.change2.ensures (both-same k3.change3.ensures (both-same k4.change4.ensures (both-same k5.change5.ensures (both-same k6.change6.ensures (both-same k7.change7.ensures (both-same status.status-of.ensures (both-same page.wide.ensures (both-same register.wide2.ensures (both-moved _ _ _ _ 0 m0.moved.ensures (both-moved _ _ _ _ 1 m1.moved2.ensures (both-moved _ _ _ _ 2 m2.moved3.ensures (both-moved _ _ _ _ 3 m3.moved4.ensures (both-moved _ _ _ _ 4 m4.moved5.ensures (both-moved _ _ _ _ 5 m5.moved6.ensures (both-moved _ _ _ _ 6 m6.moved7.ensures (both-moved _ _ _ _ 7 m7.moved8.ensures (both-moved _ _ _ _ 8 m8.moved9.ensures (both-moved _ _ _ _ 9 m9.moved10.ensures (both-moved _ _ _ _ 10 m10.moved11.ensures (both-moved _ _ _ _ 11 m11.moved12.ensures (both-moved _ _ _ _ 12 m12.moved13.ensures (both-same total.moved-total.ensures (both-same c.moved-total2.ensures refl)))))))))))))))))))))))))))
+    both_same enabled.enabled.ensures (both_same linked.linked.ensures (both_same partitioned.partitioned.ensures (both_same k1.change.ensures (both_same k2.change2.ensures (both_same k3.change3.ensures (both_same k4.change4.ensures (both_same k5.change5.ensures (both_same k6.change6.ensures (both_same k7.change7.ensures (both_same status.status-of.ensures (both_same page.wide.ensures (both_same register.wide2.ensures (both_moved _ _ _ _ 0 m0.moved.ensures (both_moved _ _ _ _ 1 m1.moved2.ensures (both_moved _ _ _ _ 2 m2.moved3.ensures (both_moved _ _ _ _ 3 m3.moved4.ensures (both_moved _ _ _ _ 4 m4.moved5.ensures (both_moved _ _ _ _ 5 m5.moved6.ensures (both_moved _ _ _ _ 6 m6.moved7.ensures (both_moved _ _ _ _ 7 m7.moved8.ensures (both_moved _ _ _ _ 8 m8.moved9.ensures (both_moved _ _ _ _ 9 m9.moved10.ensures (both_moved _ _ _ _ 10 m10.moved11.ensures (both_moved _ _ _ _ 11 m11.moved12.ensures (both_moved _ _ _ _ 12 m12.moved13.ensures (both_same total.moved-total.ensures (both_same c.moved-total2.ensures refl)))))))))))))))))))))))))))
 
 pub words-of-spec : {M : Type 1} → statement M
 words-of-spec =

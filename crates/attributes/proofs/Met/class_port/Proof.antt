@@ -1,13 +1,13 @@
-use Rattle.attributes.specs.Credits.{classPort}
+use Rattle.attributes.specs.Credits.{class_port}
 use Rattle.attributes.proofs.Met.class_port.Statement.{statement}
 use Rattle.attributes.proofs.Met.class_port.Tie as tie
 
 returns : tie.Need-returns
-unfolding classPort
+unfolding class_port
 returns c = rw c.if1.true
 
 returns-2 : tie.Need-returns-2
-unfolding classPort
+unfolding class_port
 returns-2 c = rw c.if1.false
 
 pub class-port-spec : {M : Type 1} → statement M

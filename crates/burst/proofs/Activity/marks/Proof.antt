@@ -1,4 +1,4 @@
-use Rattle.burst.proofs.MarkLaws.{marks-made}
+use Rattle.burst.proofs.MarkLaws.{marks_made}
 use borrow.Author.Rules.{rules}
 use Rattle.burst.proofs.Activity.marks.Statement.{statement}
 use Rattle.burst.proofs.Activity.marks.Tie as tie
@@ -18,7 +18,7 @@ cast-t8 c = search rules
 returns : tie.Need-returns
 returns c =
     let l = c.before.before.before in
-    marks-made _ _ _ _ _ l.before.before.mistimed.ensures l.before.contains.ensures l.contains2.ensures
+    marks_made _ _ _ _ _ l.before.before.mistimed.ensures l.before.contains.ensures l.contains2.ensures
 
 pub marks-spec : {M : Type 1} → statement M
 marks-spec =

@@ -2,7 +2,7 @@ use mathlib.Core.Path.{sym, ap, ◌∙◌}
 use borrow.Author.Rules.{rules}
 use Rattle.burst.specs.declared.Bus.{Bus}
 use Rattle.burst.specs.declared.Heard.{Heard}
-use Rattle.burst.specs.Burst.{effectWith, effect_of}
+use Rattle.burst.specs.Burst.{effect_with, effect_of}
 use Rattle.burst.proofs.Activity.undisturbed.Statement.{statement}
 use Rattle.burst.proofs.Activity.undisturbed.Tie as tie
 
@@ -28,19 +28,19 @@ returns : tie.Need-returns
 unfolding effect_of
 returns c =
     let a = c.before.before.before.args in
-    c.with_none.ensures ∙ sym (ap (λ (heard : Heard). effectWith Bus.Nothing heard a.hearing a.self) c.before.enum_told.given.1)
+    c.with_none.ensures ∙ sym (ap (λ (heard : Heard). effect_with Bus.Nothing heard a.hearing a.self) c.before.enum_told.given.1)
 
 returns-2 : tie.Need-returns-2
 unfolding effect_of
 returns-2 c =
     let a = c.before.before.before.before.args in
-    c.with-one.ensures ∙ sym (ap (λ (heard : Heard). effectWith Bus.Nothing heard a.hearing a.self) c.before.before.heard.given.1)
+    c.with-one.ensures ∙ sym (ap (λ (heard : Heard). effect_with Bus.Nothing heard a.hearing a.self) c.before.before.heard.given.1)
 
 returns-3 : tie.Need-returns-3
 unfolding effect_of
 returns-3 c =
     let a = c.before.before.before.args in
-    c.with-more.ensures ∙ sym (ap (λ (heard : Heard). effectWith Bus.Nothing heard a.hearing a.self) c.before.enum-told2.given.1)
+    c.with-more.ensures ∙ sym (ap (λ (heard : Heard). effect_with Bus.Nothing heard a.hearing a.self) c.before.enum-told2.given.1)
 
 pub undisturbed-spec : {M : Type 1} → statement M
 undisturbed-spec =

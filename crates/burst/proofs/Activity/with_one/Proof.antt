@@ -1,6 +1,6 @@
 use native.Mathlib.Omega.{arith}
 use borrow.Author.Rules.{rules}
-use Rattle.burst.proofs.BurstLaws.{with-one}
+use Rattle.burst.proofs.BurstLaws.{with_one}
 use Rattle.burst.proofs.Activity.with_one.Statement.{statement}
 use Rattle.burst.proofs.Activity.with_one.Tie as tie
 
@@ -22,7 +22,7 @@ signalled-requires c κs = search rules
 returns : tie.Need-returns
 returns c =
     let l = c.before.before in
-    with-one _ _ _ _ _ _ _ _ (omega arith) l.before.before.word-of-one.ensures l.before.only.ensures l.less.ensures
+    with_one _ _ _ _ _ _ _ _ (omega arith) l.before.before.word-of-one.ensures l.before.only.ensures l.less.ensures
     c.before.collided-with-one.ensures c.signalled.ensures
 
 pub with-one-spec : {M : Type 1} → statement M

@@ -1,5 +1,5 @@
 use Rattle.std.proofs.Common.{sym, ◌∙◌, rules}
-use Rattle.chip.specs.Chip.{refusalOf}
+use Rattle.chip.specs.Chip.{refusal_of}
 use Rattle.chip.proofs.Choices.refusal.Statement.{statement}
 use Rattle.chip.proofs.Choices.refusal.Tie as tie
 
@@ -7,11 +7,11 @@ fits-requires : tie.Need-fits-requires
 fits-requires c κs = search rules
 
 returns : tie.Need-returns
-unfolding refusalOf
+unfolding refusal_of
 returns c = rw (sym c.before.fits2.ensures ∙ c.if1.true)
 
 returns-2 : tie.Need-returns-2
-unfolding refusalOf
+unfolding refusal_of
 returns-2 c = rw (sym c.before.fits2.ensures ∙ c.if1.false)
 
 pub refusal-spec : {M : Type 1} → statement M

@@ -1,6 +1,6 @@
 use Rattle.std.proofs.Common.{false, rules}
-use Rattle.repeater.proofs.Kept.{partitioned-quieted}
-use Rattle.chip.proofs.ChipLaws.{moved-still}
+use Rattle.repeater.proofs.Kept.{partitioned_quieted}
+use Rattle.chip.proofs.ChipLaws.{moved_still}
 use Rattle.chip.proofs.Core.pass.Statement.{statement}
 use Rattle.chip.proofs.Core.pass.Tie as tie
 
@@ -11,7 +11,7 @@ move-by-requires : tie.Need-move-by-requires
 move-by-requires c κs = search rules
 
 returns : tie.Need-returns
-returns c = rw (c.move-by.ensures, c.before.quiet.ensures) (moved-still c.before.before.before.args.self _ false false 0 (partitioned-quieted _ _))
+returns c = rw (c.move-by.ensures, c.before.quiet.ensures) (moved_still c.before.before.before.args.self _ false false 0 (partitioned_quieted _ _))
 
 pub pass_spec : {M : Type 1} → statement M
 pass_spec = tie.close (tie.spec quiet-requires move-by-requires returns)

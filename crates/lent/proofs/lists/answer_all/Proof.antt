@@ -41,7 +41,7 @@ use denote.Triple.Clauses.{ensured, lasts}
 use denote.Triple.Walked.{AllGo, Goes-dropped, Goes-slice, walked, walk_Meets}
 use denote.Exit.{yes}
 use Rattle.host.specs.declared.Host.{Host}
-use Rattle.host.specs.Sequence.{powerUp}
+use Rattle.host.specs.Sequence.{power_up}
 use Rattle.host.specs.contracts.Host as Hst
 use Rattle.host.proofs.Host.TheLaws as Hst'
 use Rattle.host.specs.contracts.Host.power_up as fresh
@@ -58,10 +58,10 @@ use Rattle.record.specs.contracts.Record as Rqs
 use Rattle.record.proofs.Record.TheLaws as Rqs'
 use Rattle.lent.specs.declared.Rest.{Rest}
 use Rattle.lent.specs.contracts.Rest as Rst
-use Rattle.lent.proofs.Walk.{hostVal, chipVal, hostTy, lentTy, hostFits, indexOwned, answered}
-use Rattle.lent.proofs.Walk.{chipFits as chipFitsAt, requestFits as requestFitsAt, restFits as restFitsAt}
+use Rattle.lent.proofs.Walk.{host_val, chip_val, host_ty, lent_ty, host_fits, index_owned, answered}
+use Rattle.lent.proofs.Walk.{chip_fits as chipFitsAt, request_fits as requestFitsAt, rest_fits as restFitsAt}
 use Rattle.lent.proofs.PassOn.{Take}
-use Rattle.lent.proofs.Buffer.{bytes_at}
+use Rattle.lent.proofs.Buffer.{bytes_at_lem}
 use Rattle.lent.proofs.take.Symbol as take-def
 use Rattle.lent.proofs.take.Symbol.{name as #take}
 use Rattle.lent.proofs.take.Met as take-thm
@@ -80,19 +80,19 @@ use Rattle.lent.specs.contracts.lists.answer_all.Key.{name as #f}
 use Rattle.lent.proofs.lists.answer_all.Statement as stated
 use Rattle.lent.proofs.lists.answer_all.Code as code
 use Rattle.lent.proofs.lists.answer_all.Code.Mir as body
-use Turn.{recordsS, stayed, word, recordsTy, answersTy, cell_ty, restTy, Request, Lay, Post as PostAt, from-loop}
+use Turn.{records_s, stayed, word, records_ty, answers_ty, cell_ty, rest_ty, Request, Lay, Post as PostAt, from_loop}
 
 -- the function's code
 abbrev answering : Sym → Ty → Ty → Ty → Fn
-answering σ chipTy requestTy answerTy = record {
+answering σ chip_ty request_ty answerTy = record {
   lifetimes = 2;
   outlives = [];
   params = 3;
   locals =
-      local chipTy value_local ∷ local chipTy value_local ∷ local recordsTy value_local ∷ local answersTy value_local ∷ local word value_local
-      ∷ local hostTy memory_slot ∷ local chipTy value_local ∷ local word value_local ∷ local requestTy value_local
-      ∷ local (restTy σ chipTy answerTy) value_local ∷ local word value_local ∷ local hostTy value_local ∷ local ty_bool value_local
-      ∷ local lentTy value_local ∷ local ty_unit value_local ∷ local cell_ty value_local ∷ local (slice_ty cell_ty) value_local ∷ [];
+      local chip_ty value_local ∷ local chip_ty value_local ∷ local records_ty value_local ∷ local answers_ty value_local ∷ local word value_local
+      ∷ local host_ty memory_slot ∷ local chip_ty value_local ∷ local word value_local ∷ local request_ty value_local
+      ∷ local (rest_ty σ chip_ty answerTy) value_local ∷ local word value_local ∷ local host_ty value_local ∷ local ty_bool value_local
+      ∷ local lent_ty value_local ∷ local ty_unit value_local ∷ local cell_ty value_local ∷ local (slice_ty cell_ty) value_local ∷ [];
   body = body.t-1;
 }
 
@@ -109,14 +109,14 @@ module _ {M : Type 1} {𝓤 : Ura M} (𝓛 : Logic 𝓤) (at_mem : Memory → SP
   abbrev Made : Host → SProp 𝓤
   Made h = ensured 𝓛 fresh.ended (fresh.clauses 𝓛 at_mem run) tt tt tt h
 
-  count-said : (k m : ℕ) → ent 𝓤 (Counted k m) (fact 𝓤 (m ≡ pieces k))
-  count-said k m = ex_e 𝓤 _ (λ ws. snd∗ 𝓤 (sem 𝓛 (lasts count.ended tt (k, tt) ws)) (fact 𝓤 (m ≡ pieces k)))
+  count_said : (k m : ℕ) → ent 𝓤 (Counted k m) (fact 𝓤 (m ≡ pieces k))
+  count_said k m = ex_e 𝓤 _ (λ ws. snd∗ 𝓤 (sem 𝓛 (lasts count.ended tt (k, tt) ws)) (fact 𝓤 (m ≡ pieces k)))
 
-  fresh-said : (h : Host) → ent 𝓤 (Made h) (fact 𝓤 (h ≡ powerUp))
-  fresh-said h = ex_e 𝓤 _ (λ ws. snd∗ 𝓤 (sem 𝓛 (lasts fresh.ended tt tt ws)) (fact 𝓤 (h ≡ powerUp)))
+  fresh_said : (h : Host) → ent 𝓤 (Made h) (fact 𝓤 (h ≡ power_up))
+  fresh_said h = ex_e 𝓤 _ (λ ws. snd∗ 𝓤 (sem 𝓛 (lasts fresh.ended tt tt ws)) (fact 𝓤 (h ≡ power_up)))
 
 module _ {M : Type 1} {𝓤 : Ura M} (𝓛 : Logic 𝓤) (at_mem : Memory → SProp 𝓤) (run : Routine → Fun 𝓤)
-    (c₀ : FlatChip) (gc : Is Chp.the_row c₀ (chipVal c₀ ∷ []))
+    (c₀ : FlatChip) (gc : Is Chp.the_row c₀ (chip_val c₀ ∷ []))
     (κ : Lft) (q : Share) (b o : ℕ) (γ : GName) (bs : List ℕ) (gn : Room u8 (length bs))
     (κ' : Lft) (q' : Share) (b' o' : ℕ) (γ' : GName) (out₀ : List ℕ) (gn' : Room u8 (length out₀)) where
   open 𝓛 use {H}
@@ -131,67 +131,67 @@ module _ {M : Type 1} {𝓤 : Ura M} (𝓛 : Logic 𝓤) (at_mem : Memory → SP
   s' = slice_val (b', o') (length out₀)
 
   abbrev x : FlatChip × (Bor (List ℕ) × (Bor (List ℕ) × Unit {0}))
-  x = (c₀, (bytes_at b o γ bs, (bytes_at b' o' γ' out₀, tt)))
+  x = (c₀, (bytes_at_lem b o γ bs, (bytes_at_lem b' o' γ' out₀, tt)))
 
   abbrev at : List Val × (List Val × (List Val × Unit {0}))
-  at = (chipVal c₀ ∷ [], (s ∷ [], (s' ∷ [], tt)))
+  at = (chip_val c₀ ∷ [], (s ∷ [], (s' ∷ [], tt)))
 
   abbrev Post : Val → SProp 𝓤
   Post = PostAt 𝓛 at_mem run c₀ gc κ q b o γ bs gn κ' q' b' o' γ' out₀ gn'
 
-  abbrev to-count : (Count 𝓛 at_mem run).Ghost
-  to-count = ((tt, tt, tt, (length bs, tt), (vint w64 (length bs) ∷ [], tt)), tt)
+  abbrev to_count : (Count 𝓛 at_mem run).Ghost
+  to_count = ((tt, tt, tt, (length bs, tt), (vint w64 (length bs) ∷ [], tt)), tt)
 
-  goes-count : ent 𝓤 (emp 𝓤) ((Count 𝓛 at_mem run).pre to-count)
-  goes-count = qed 𝓛 [] ∵ nothing ! $ indexOwned 𝓛 ! (length bs) gn.0 $ fjoin ! $ nothing ! $ join ! $ frame ! $ done !
+  goes_count : ent 𝓤 (emp 𝓤) ((Count 𝓛 at_mem run).pre to_count)
+  goes_count = qed 𝓛 [] ∵ nothing ! $ index_owned 𝓛 ! (length bs) gn.0 $ fjoin ! $ nothing ! $ join ! $ frame ! $ done !
 
-  abbrev to-fresh : (Fresh 𝓛 at_mem run).Ghost
-  to-fresh = ((tt, tt, tt, tt, tt), tt)
+  abbrev to_fresh : (Fresh 𝓛 at_mem run).Ghost
+  to_fresh = ((tt, tt, tt, tt, tt), tt)
 
-  goes-fresh : ent 𝓤 (emp 𝓤) ((Fresh 𝓛 at_mem run).pre to-fresh)
-  goes-fresh = qed 𝓛 [] ∵ nothing ! $ nothing ! $ join ! $ frame ! $ done !
+  goes_fresh : ent 𝓤 (emp 𝓤) ((Fresh 𝓛 at_mem run).pre to_fresh)
+  goes_fresh = qed 𝓛 [] ∵ nothing ! $ nothing ! $ join ! $ frame ! $ done !
 
   module _ (𝓣 : Tables 𝓤 H) (fm : FmC 𝓤 H 𝓛.laws 𝓣.C) (known-count : Triple 𝓤 (𝓣.C #count) (Count 𝓛 at_mem run))
       (known-fresh : Triple 𝓤 (𝓣.C #fresh) (Fresh 𝓛 at_mem run))
       (known-request : Triple 𝓤 (𝓣.C #request) (Request 𝓛 at_mem run)) (known-take : Triple 𝓤 (𝓣.C #take) (Take 𝓛 at_mem run))
       (known-lay : Triple 𝓤 (𝓣.C #lay) (Lay 𝓛 at_mem run))
-      (σ : Sym) (chipTy requestTy answerTy : Ty) (chipFits : (c : FlatChip) (v : Val) → Is Chp.the_row c (v ∷ []) → T (has_ty chipTy v) × WT v)
-      (requestFits : (r : Record) (v : Val) → Is Rqs.the_row r (v ∷ []) → T (has_ty requestTy v) × WT v)
-      (restFits : (a : Rest) (v : Val) → Is Rst.the_row a (v ∷ []) → T (has_ty (restTy σ chipTy answerTy) v) × WT v) where
-    walk : ent 𝓤 (on_entry 𝓛 f.signature (κ, (κ', tt)) (q, (q', tt)) x at) (WpFn 𝓤 H 𝓣.C 𝓣.Λ (answering σ chipTy requestTy answerTy) (chipVal c₀ ∷ s ∷ s' ∷ []) Post)
+      (σ : Sym) (chip_ty request_ty answerTy : Ty) (chip_fits : (c : FlatChip) (v : Val) → Is Chp.the_row c (v ∷ []) → T (has_ty chip_ty v) × WT v)
+      (request_fits : (r : Record) (v : Val) → Is Rqs.the_row r (v ∷ []) → T (has_ty request_ty v) × WT v)
+      (rest_fits : (a : Rest) (v : Val) → Is Rst.the_row a (v ∷ []) → T (has_ty (rest_ty σ chip_ty answerTy) v) × WT v) where
+    walk : ent 𝓤 (on_entry 𝓛 f.signature (κ, (κ', tt)) (q, (q', tt)) x at) (WpFn 𝓤 H 𝓣.C 𝓣.Λ (answering σ chip_ty request_ty answerTy) (chip_val c₀ ∷ s ∷ s' ∷ []) Post)
     walk =
         qed 𝓛 ((‵ (flft κ q) ⊛ ‵ (flft κ' q') ⊛ ‵ ftrue) ∷ ‵ (owns (Chp.the_row ∷ ShrSlice (named 0) κ u8 ∷ MutSlice (named 1) κ' u8 ∷ []) x at) ∷ []) ∵
-        enter ! 𝓣.C 𝓣.Λ (answering σ chipTy requestTy answerTy) (chipVal c₀ ∷ s ∷ s' ∷ []) _ $
+        enter ! 𝓣.C 𝓣.Λ (answering σ chip_ty request_ty answerTy) (chip_val c₀ ∷ s ∷ s' ∷ []) _ $
         alloc1 ! (λ l₀. alloc1 ! (λ l₁. alloc1 ! (λ l₂. alloc1 ! (λ l₃. alloc1 ! (λ l₄. alloc1 ! (λ l₅. alloc1 ! (λ l₆. alloc1 ! (λ l₇. alloc1 ! (λ l₈.
         alloc1 ! (λ l₉. alloc1 ! (λ l₁₀. alloc1 ! (λ l₁₁. alloc1 ! (λ l₁₂. alloc1 ! (λ l₁₃. alloc1 ! (λ l₁₄. alloc1 ! (λ l₁₅. alloc1 ! (λ l₁₆. alloc0 ! $
         params1 ! $
-        pass1 ! (init ! 30 refl (chipFits c₀ (chipVal c₀) gc)) $ pass1 ! (init ! 28 refl (tt, (tt, (record { fits = gn.0 }, tt)))) $
+        pass1 ! (init ! 30 refl (chip_fits c₀ (chip_val c₀) gc)) $ pass1 ! (init ! 28 refl (tt, (tt, (record { fits = gn.0 }, tt)))) $
         pass1 ! (init ! 26 refl (tt, (tt, (record { fits = gn'.0 }, tt)))) $ pass0 ! $
         -- how many pieces there are
         assigns ! (of_opd ! (load ! (from ! (fld ! refl (stop !))) (look_in ! 28 (sub ! 1 refl (whole !))))) (from ! (stop !))
         (init ! 12 refl (tt, record { fits = gn.0 })) $
-        use0 𝓛 (raw ((Count 𝓛 at_mem run).pre to-count)) goes-count $
-        calls_at ! fm (Count 𝓛 at_mem run) known-count to-count (and_then ! (load ! (from ! (stop !)) (look ! 13 refl)) (no_more !)) (λ vm.
-        answered 𝓛 (‵ ftrue) usize (Counted 𝓛 at_mem run (length bs)) (λ m. m ≡ n) (count-said 𝓛 at_mem run (length bs)) vm tt ! (λ m em im. drop ! $
+        use0 𝓛 (raw ((Count 𝓛 at_mem run).pre to_count)) goes_count $
+        calls_at ! fm (Count 𝓛 at_mem run) known-count to_count (and_then ! (load ! (from ! (stop !)) (look ! 13 refl)) (no_more !)) (λ vm.
+        answered 𝓛 (‵ ftrue) usize (Counted 𝓛 at_mem run (length bs)) (λ m. m ≡ n) (count_said 𝓛 at_mem run (length bs)) vm tt ! (λ m em im. drop ! $
         land ! (from ! (stop !)) (init ! 24 refl ((uint_Lawful 𝓛 w64).typed m _ im).0) $
         rewrite ! 24 (λ (u : Val). ‵ (fat full_share word l₄ 0 u)) (ap only im.0) refl $
         rewrite ! 24 (λ (k : ℕ). ‵ (fat full_share word l₄ 0 (vint w64 k))) em refl $
         -- the host's record at power-up
-        use0 𝓛 (raw ((Fresh 𝓛 at_mem run).pre to-fresh)) goes-fresh $
-        calls_at ! fm (Fresh 𝓛 at_mem run) known-fresh to-fresh (no_more !) (λ v.
-        answered 𝓛 (‵ ftrue) Hst.the_row (Made 𝓛 at_mem run) (λ h. h ≡ powerUp) (fresh-said 𝓛 at_mem run) v tt ! (λ h e was. drop ! $
-        land ! (from ! (stop !)) (init ! 10 refl (hostFits 𝓛 h v was)) $
-        rewrite ! 10 (λ (u : Val). ‵ (fat full_share hostTy l₁₁ 0 u)) (ap only (LL.tells Hst.the_type Hst'.the_laws h _ was)) refl $
+        use0 𝓛 (raw ((Fresh 𝓛 at_mem run).pre to_fresh)) goes_fresh $
+        calls_at ! fm (Fresh 𝓛 at_mem run) known-fresh to_fresh (no_more !) (λ v.
+        answered 𝓛 (‵ ftrue) Hst.the_row (Made 𝓛 at_mem run) (λ h. h ≡ power_up) (fresh_said 𝓛 at_mem run) v tt ! (λ h e was. drop ! $
+        land ! (from ! (stop !)) (init ! 10 refl (host_fits 𝓛 h v was)) $
+        rewrite ! 10 (λ (u : Val). ‵ (fat full_share host_ty l₁₁ 0 u)) (ap only (LL.tells Hst.the_type Hst'.the_laws h _ was)) refl $
         assigns ! (of_opd ! (load ! (from ! (stop !)) (look ! 10 refl))) (from ! (stop !))
-        (init ! 22 refl (hostFits 𝓛 h (hostVal h) (LL.owes Hst.the_type Hst'.the_laws h (LL.owed Hst.the_type Hst'.the_laws h _ was)))) $
-        assigns ! (of_opd ! (load ! (from ! (stop !)) (look ! 30 refl))) (from ! (stop !)) (init ! 20 refl (chipFits c₀ (chipVal c₀) gc)) $
+        (init ! 22 refl (host_fits 𝓛 h (host_val h) (LL.owes Hst.the_type Hst'.the_laws h (LL.owed Hst.the_type Hst'.the_laws h _ was)))) $
+        assigns ! (of_opd ! (load ! (from ! (stop !)) (look ! 30 refl))) (from ! (stop !)) (init ! 20 refl (chip_fits c₀ (chip_val c₀) gc)) $
         assigns ! (of_opd ! (lit ! tt)) (from ! (stop !)) (init ! 18 refl (tt, record { fits = lit< tt })) $ forget ! 10 refl $ forget ! 12 refl $
         -- [the locals; the tokens; what the parameters own]: the slices and their tokens go in front
         move ! (35 ∷ []) $ fsplit ! $ drop ! $ fsplit ! $ move ! (1 ∷ []) $ fsplit ! $ move ! (37 ∷ []) $ split ! $ move ! (1 ∷ []) $ split ! $
         keep ! (5 ∷ 2 ∷ 3 ∷ 0 ∷ 6 ∷ 7 ∷ 8 ∷ 9 ∷ 10 ∷ 11 ∷ 12 ∷ 13 ∷ 14 ∷ 15 ∷ 16 ∷ 17 ∷ 18 ∷ 19 ∷ 20 ∷ 21 ∷ 22 ∷ 23 ∷ 24 ∷ 25 ∷ 26
         ∷ 27 ∷ 28 ∷ 29 ∷ 30 ∷ 31 ∷ 32 ∷ 33 ∷ 34 ∷ 35 ∷ 36 ∷ 37 ∷ 38 ∷ 39 ∷ []) $
-        from-loop 𝓛 at_mem run c₀ gc κ q b o γ bs gn κ' q' b' o' γ' out₀ gn' 𝓣 fm
-        known-request known-take known-lay σ chipTy requestTy answerTy chipFits requestFits restFits l₀ l₁ l₂ l₃ l₄ l₅ l₆ l₇ l₈ l₉ l₁₀ l₁₁ l₁₂ l₁₃ l₁₄ l₁₅ l₁₆ h e
+        from_loop 𝓛 at_mem run c₀ gc κ q b o γ bs gn κ' q' b' o' γ' out₀ gn' 𝓣 fm
+        known-request known-take known-lay σ chip_ty request_ty answerTy chip_fits request_fits rest_fits l₀ l₁ l₂ l₃ l₄ l₅ l₆ l₇ l₈ l₉ l₁₀ l₁₁ l₁₂ l₁₃ l₁₄ l₁₅ l₁₆ h e
         (LL.owes Hst.the_type Hst'.the_laws h (LL.owed Hst.the_type Hst'.the_laws h _ was)))))))))))))))))))))))
 
 module _ {M : Type 1} {𝓤 : Ura M} (𝓛 : Logic 𝓤) (at_mem : Memory → SProp 𝓤) (run : Routine → Fun 𝓤) where
@@ -200,13 +200,13 @@ module _ {M : Type 1} {𝓤 : Ura M} (𝓛 : Logic 𝓤) (at_mem : Memory → SP
   goes : AllGo 𝓛 2 (f.signature).params (f.ended).kept stayed
   goes = (
     Goes-dropped 𝓛 2 (plain (λ _. Chp.the_row)) yes (λ κs x f. refl),
-    (Goes-dropped 𝓛 2 recordsS yes (λ κs x f. refl), (Goes-slice 𝓛 2 1 tt (plain (λ _. u8)), tt)),
+    (Goes-dropped 𝓛 2 records_s yes (λ κs x f. refl), (Goes-slice 𝓛 2 1 tt (plain (λ _. u8)), tt)),
   )
 
-  answer-all-meets : (𝓣 : Tables 𝓤 H) → Triple 𝓤 (𝓣.C #count) (Count 𝓛 at_mem run) → Triple 𝓤 (𝓣.C #fresh) (Fresh 𝓛 at_mem run)
+  answer_all_meets : (𝓣 : Tables 𝓤 H) → Triple 𝓤 (𝓣.C #count) (Count 𝓛 at_mem run) → Triple 𝓤 (𝓣.C #fresh) (Fresh 𝓛 at_mem run)
       → Triple 𝓤 (𝓣.C #request) (Request 𝓛 at_mem run) → Triple 𝓤 (𝓣.C #take) (Take 𝓛 at_mem run) → Triple 𝓤 (𝓣.C #lay) (Lay 𝓛 at_mem run)
       → Meets 𝓛 f.signature (WpFn 𝓤 H 𝓣.C 𝓣.Λ code.function) (f.spec 𝓛 at_mem run)
-  answer-all-meets 𝓣 known-count known-fresh known-request known-take known-lay =
+  answer_all_meets 𝓣 known-count known-fresh known-request known-take known-lay =
       walk_Meets 𝓛 f.ended stayed goes (f.clauses 𝓛 at_mem run) (WpFn 𝓤 H 𝓣.C 𝓣.Λ code.function) (WpFn-mono 𝓤 H 𝓛.laws 𝓣 code.function)
       (walked 𝓛 f.ended stayed (f.clauses 𝓛 at_mem run) (WpFn 𝓤 H 𝓣.C 𝓣.Λ code.function)
       (λ κs. (LL.vals Chp.the_type Chp'.the_laws, (shr_slice_vals, (shr_slice_vals, tt))))
@@ -221,7 +221,7 @@ unfolding code.routine tables_of
 answer-all-spec 𝓤 𝓛 𝓜 𝓡 =
     entered 𝓤 𝓛.H (triple_of 𝓛 f.signature (f.spec 𝓛 𝓜.mem 𝓡.run))
     (tables 𝓤 𝓛.H 𝓜 𝓡 code.env).C (tables 𝓤 𝓛.H 𝓜 𝓡 code.env).Λ #f code.function (code.unfolded 𝓤 𝓛.H 𝓜 𝓡)
-    (answer-all-meets 𝓛 𝓜.mem 𝓡.run (tables_of 𝓤 𝓛.H 𝓜 (tables 𝓤 𝓛.H 𝓜 𝓡 code.env))
+    (answer_all_meets 𝓛 𝓜.mem 𝓡.run (tables_of 𝓤 𝓛.H 𝓜 (tables 𝓤 𝓛.H 𝓜 𝓡 code.env))
     (cited 𝓤 𝓛.H (Count 𝓛 𝓜.mem 𝓡.run) 𝓜 𝓡 code.env #count count-def.routine code.calls-lent::lists::count (count-thm.met 𝓤 𝓛 𝓜 𝓡))
     (cited 𝓤 𝓛.H (Fresh 𝓛 𝓜.mem 𝓡.run) 𝓜 𝓡 code.env #fresh fresh-def.routine code.calls-host::Host::power-up (fresh-thm.met 𝓤 𝓛 𝓜 𝓡))
     (cited 𝓤 𝓛.H (Request 𝓛 𝓜.mem 𝓡.run) 𝓜 𝓡 code.env #request request-def.routine code.calls-lent::lists::request-at (request-thm.met 𝓤 𝓛 𝓜 𝓡))

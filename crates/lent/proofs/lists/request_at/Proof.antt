@@ -1,7 +1,7 @@
 -- `lent::lists::request_at` meets its contract: the bytes that it reads are the piece. Assumes nothing.
 use mathlib.Core.Path.{◌∙◌, ap}
-use Rattle.record.specs.Refusals.{recordOf}
-use Rattle.lent.proofs.ListLaws.{piece-short, piece-whole}
+use Rattle.record.specs.Refusals.{record_of}
+use Rattle.lent.proofs.ListLaws.{piece_short, piece_whole}
 use borrow.Author.Rules.{rules}
 use Rattle.lent.proofs.lists.request_at.Statement.{statement}
 use Rattle.lent.proofs.lists.request_at.Tie as tie
@@ -27,7 +27,7 @@ read-record-requires c κs = search rules
 returns : tie.Need-returns
 returns c =
     let a = c.before.before.before.before.args in
-    c.read-record.ensures ∙ ap recordOf (piece-short a.records.now a.i c.before.before.if1.true)
+    c.read-record.ensures ∙ ap record_of (piece_short a.records.now a.i c.before.before.if1.true)
 
 add-read-record : tie.Need-overflow-add-read-record
 add-read-record c = search rules
@@ -45,7 +45,7 @@ read-record-requires-2 : tie.Need-read-record-requires-2
 read-record-requires-2 c κs = search rules
 
 returns-2 : tie.Need-returns-2
-returns-2 c = let a = c.before.before.before.before.args in c.read-record2.ensures ∙ ap recordOf (piece-whole a.records.now a.i)
+returns-2 c = let a = c.before.before.before.before.args in c.read-record2.ensures ∙ ap record_of (piece_whole a.records.now a.i)
 
 pub request-at-spec : {M : Type 1} → statement M
 request-at-spec =

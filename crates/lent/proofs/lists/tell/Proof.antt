@@ -1,6 +1,6 @@
--- `lent::lists::tell` meets its contract: the four arms of `toldOf`. Assumes nothing.
+-- `lent::lists::tell` meets its contract: the four arms of `told_of`. Assumes nothing.
 use mathlib.Core.Path.{sym, ◌∙◌, ap}
-use Rattle.lent.specs.Lists.{toldOf}
+use Rattle.lent.specs.Lists.{told_of}
 use borrow.Author.Rules.{rules}
 use Rattle.lent.proofs.lists.tell.Statement.{statement}
 use Rattle.lent.proofs.lists.tell.Tie as tie
@@ -39,16 +39,16 @@ tell-of-requires-4 : tie.Need-tell-of-requires-4
 tell-of-requires-4 c κs = search rules
 
 returns : tie.Need-returns
-returns c = c.tell-of.ensures ∙ sym (ap toldOf c.before.enum_told.given.1)
+returns c = c.tell-of.ensures ∙ sym (ap told_of c.before.enum_told.given.1)
 
 returns-2 : tie.Need-returns-2
-returns-2 c = rw (c.tell-of2.ensures, c.before.number.ensures) (sym (ap toldOf c.before.before.before.a.given.1))
+returns-2 c = rw (c.tell-of2.ensures, c.before.number.ensures) (sym (ap told_of c.before.before.before.a.given.1))
 
 returns-3 : tie.Need-returns-3
-returns-3 c = rw (c.tell-of3.ensures, c.before.wide.ensures) (sym (ap toldOf c.before.before.before.a2.given.1))
+returns-3 c = rw (c.tell-of3.ensures, c.before.wide.ensures) (sym (ap told_of c.before.before.before.a2.given.1))
 
 returns-4 : tie.Need-returns-4
-returns-4 c = rw (c.tell-of4.ensures, c.before.wide2.ensures) (sym (ap toldOf c.before.before.before.a3.given.1))
+returns-4 c = rw (c.tell-of4.ensures, c.before.wide2.ensures) (sym (ap told_of c.before.before.before.a3.given.1))
 
 pub tell-spec : {M : Type 1} → statement M
 tell-spec =

@@ -1,4 +1,4 @@
-use Rattle.management.specs.Status.{clearedBy}
+use Rattle.management.specs.Status.{cleared_by}
 use Rattle.management.specs.declared.Query.{Query}
 use mathlib.Core.Path.{sym, ap}
 use borrow.Author.Rules.{rules}
@@ -33,40 +33,40 @@ enum-told-9 : tie.Need-enum-told-9
 enum-told-9 c = search rules
 
 returns : tie.Need-returns
-unfolding clearedBy
-returns c = sym (ap (λ (k : Query). clearedBy k c.before.before.args.self) c.enum_told.given.1)
+unfolding cleared_by
+returns c = sym (ap (λ (k : Query). cleared_by k c.before.before.args.self) c.enum_told.given.1)
 
 returns-2 : tie.Need-returns-2
-unfolding clearedBy
-returns-2 c = sym (ap (λ (k : Query). clearedBy k c.before.before.args.self) c.enum-told2.given.1)
+unfolding cleared_by
+returns-2 c = sym (ap (λ (k : Query). cleared_by k c.before.before.args.self) c.enum-told2.given.1)
 
 returns-3 : tie.Need-returns-3
-unfolding clearedBy
-returns-3 c = sym (ap (λ (k : Query). clearedBy k c.before.before.args.self) c.enum-told3.given.1)
+unfolding cleared_by
+returns-3 c = sym (ap (λ (k : Query). cleared_by k c.before.before.args.self) c.enum-told3.given.1)
 
 returns-4 : tie.Need-returns-4
-unfolding clearedBy
-returns-4 c = sym (ap (λ (k : Query). clearedBy k c.before.before.args.self) c.enum-told4.given.1)
+unfolding cleared_by
+returns-4 c = sym (ap (λ (k : Query). cleared_by k c.before.before.args.self) c.enum-told4.given.1)
 
 returns-5 : tie.Need-returns-5
-unfolding clearedBy
-returns-5 c = sym (ap (λ (k : Query). clearedBy k c.before.before.args.self) c.enum-told5.given.1)
+unfolding cleared_by
+returns-5 c = sym (ap (λ (k : Query). cleared_by k c.before.before.args.self) c.enum-told5.given.1)
 
 returns-6 : tie.Need-returns-6
-unfolding clearedBy
-returns-6 c = sym (ap (λ (k : Query). clearedBy k c.before.before.args.self) c.enum-told6.given.1)
+unfolding cleared_by
+returns-6 c = sym (ap (λ (k : Query). cleared_by k c.before.before.args.self) c.enum-told6.given.1)
 
 returns-7 : tie.Need-returns-7
-unfolding clearedBy
-returns-7 c = sym (ap (λ (k : Query). clearedBy k c.before.before.args.self) c.enum-told7.given.1)
+unfolding cleared_by
+returns-7 c = sym (ap (λ (k : Query). cleared_by k c.before.before.args.self) c.enum-told7.given.1)
 
 returns-8 : tie.Need-returns-8
-unfolding clearedBy
-returns-8 c = sym (ap (λ (k : Query). clearedBy k c.before.before.args.self) c.enum-told8.given.1)
+unfolding cleared_by
+returns-8 c = sym (ap (λ (k : Query). cleared_by k c.before.before.args.self) c.enum-told8.given.1)
 
 returns-9 : tie.Need-returns-9
-unfolding clearedBy
-returns-9 c = sym (ap (λ (k : Query). clearedBy k c.before.before.args.self) c.enum-told9.given.1)
+unfolding cleared_by
+returns-9 c = sym (ap (λ (k : Query). cleared_by k c.before.before.args.self) c.enum-told9.given.1)
 
 pub clear_spec : {M : Type 1} → statement M
 clear_spec =

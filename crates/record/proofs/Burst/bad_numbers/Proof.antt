@@ -2,20 +2,20 @@
 use mathlib.Core.Path.{sym, ◌∙◌}
 use borrow.Author.Rules.{rules}
 use borrow.Author.Tests.{le-ltb, lt-ltb, eq-eqb, ne_eqb}
-use Rattle.record.specs.Refusals.{badNumbers}
+use Rattle.record.specs.Refusals.{bad_numbers}
 use Rattle.record.proofs.Burst.bad_numbers.Statement.{statement}
 use Rattle.record.proofs.Burst.bad_numbers.Tie as tie
 
 returns : tie.Need-returns
-unfolding badNumbers
+unfolding bad_numbers
 returns c = simp (eq-eqb _ _ c.if1.true)
 
 returns-2 : tie.Need-returns-2
-unfolding badNumbers
+unfolding bad_numbers
 returns-2 c = simp (ne_eqb _ _ c.before.before.if1.false, lt-ltb _ _ c.if2.true)
 
 returns-3 : tie.Need-returns-3
-unfolding badNumbers
+unfolding bad_numbers
 returns-3 c =
     let two = c.before.before in
     simp (ne_eqb _ _ two.before.before.if1.false, le-ltb _ _ two.if2.false, lt-ltb _ _ c.if3.true)
@@ -24,7 +24,7 @@ octets-past-requires : tie.Need-octets-past-requires
 octets-past-requires c κs = search rules
 
 returns-4 : tie.Need-returns-4
-unfolding badNumbers
+unfolding bad_numbers
 returns-4 c =
     let three = c.before.before in
     let two = three.before.before in
@@ -39,7 +39,7 @@ collision-past-requires : tie.Need-collision-past-requires
 collision-past-requires c κs = search rules
 
 returns-5 : tie.Need-returns-5
-unfolding badNumbers
+unfolding bad_numbers
 returns-5 c =
     let three = c.before.before.before in
     let two = three.before.before in

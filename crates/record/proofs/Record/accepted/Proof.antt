@@ -1,7 +1,7 @@
 -- `record::Record::accepted` meets its contract. Assumes nothing.
 use mathlib.Core.Path.{refl}
 use borrow.Author.Rules.{rules}
-use Rattle.record.specs.Record.{bytesFrom}
+use Rattle.record.specs.Record.{bytes_from}
 use Rattle.record.proofs.Record.accepted.Statement.{statement}
 use Rattle.record.proofs.Record.accepted.Tie as tie
 
@@ -24,7 +24,7 @@ shared-slice-read-t15 : tie.Need-shared-slice-read-t15
 shared-slice-read-t15 c = search rules
 
 returns : tie.Need-returns
-unfolding bytesFrom
+unfolding bytes_from
 returns c = refl
 
 pub accepted-spec : {M : Type 1} → statement M

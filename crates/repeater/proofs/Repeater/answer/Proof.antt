@@ -1,4 +1,4 @@
-use Rattle.repeater.proofs.RepeaterLaws.{connected-byte, linked-byte}
+use Rattle.repeater.proofs.RepeaterLaws.{connected_byte, linked_byte}
 use Rattle.repeater.specs.Answers.{answer_of}
 use Rattle.management.specs.declared.Query.{Query}
 use Prim.Native.Nat.{ℕ, ◌-◌, ◌%◌}
@@ -87,7 +87,7 @@ returns-5 c =
     let l = c.before.before in
     let r = l.before.before.before.args.self in
     ap (λ (n : ℕ). 255 - n) (c.low_byte.ensures ∙ ap (λ (n : ℕ). n % 256) c.before.partitioned.ensures)
-    ∙ connected-byte r
+    ∙ connected_byte r
     ∙ sym (ap (λ (k : Query). answer_of k r) l.enum-told5.given.1)
 
 returns-6 : tie.Need-returns-6
@@ -101,7 +101,7 @@ returns-7 c =
     let r = l.before.before.before.args.self in
     c.low-byte2.ensures
     ∙ ap (λ (n : ℕ). n % 256) c.before.linked.ensures
-    ∙ linked-byte r
+    ∙ linked_byte r
     ∙ sym (ap (λ (k : Query). answer_of k r) l.enum-told7.given.1)
 
 returns-8 : tie.Need-returns-8

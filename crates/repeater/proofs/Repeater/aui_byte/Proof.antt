@@ -30,7 +30,7 @@ add-result-3 c = omega arith
 returns : tie.Need-returns
 returns c =
     let l = c.before.before.before in
-    let p = l.before.before.before.port-at in
+    let p = l.before.before.before.port_at_lem in
     rw (l.weight.ensures.0, c.before.before.weight2.ensures.0, c.before.weight3.ensures.0, c.weight4.ensures.0, p.ensures)
 
 pub aui-byte-spec : {M : Type 1} → statement M

@@ -1,4 +1,4 @@
-use Rattle.repeater.specs.Repeater.{changedAt}
+use Rattle.repeater.specs.Repeater.{changed_at}
 use borrow.Author.Rules.{rules}
 use Rattle.repeater.proofs.Repeater.change_at.Statement.{statement}
 use Rattle.repeater.proofs.Repeater.change_at.Tie as tie
@@ -13,7 +13,7 @@ put-at-requires : tie.Need-put-at-requires
 put-at-requires c κs = search rules
 
 returns : tie.Need-returns
-unfolding changedAt
+unfolding changed_at
 returns c = rw (c.put-at.ensures, c.before.change.ensures, c.before.before.port-at.ensures)
 
 pub change-at-spec : {M : Type 1} → statement M

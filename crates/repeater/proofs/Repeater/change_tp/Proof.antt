@@ -1,5 +1,5 @@
 use borrow.Author.Tests.{lt-ltb, le-ltb}
-use Rattle.repeater.specs.Repeater.{changedTp}
+use Rattle.repeater.specs.Repeater.{changed_tp}
 use borrow.Author.Rules.{rules}
 use Rattle.repeater.proofs.Repeater.change_tp.Statement.{statement}
 use Rattle.repeater.proofs.Repeater.change_tp.Tie as tie
@@ -11,13 +11,13 @@ change-at-requires : tie.Need-change-at-requires
 change-at-requires c κs = search rules
 
 returns : tie.Need-returns
-unfolding changedTp
+unfolding changed_tp
 returns c =
     let l = c.before.before in
     rw (lt-ltb _ _ (rw l.index.ensures at c.before.if1.true)) (rw l.index.ensures at c.change-at.ensures)
 
 returns-2 : tie.Need-returns-2
-unfolding changedTp
+unfolding changed_tp
 returns-2 c = rw (le-ltb _ _ (rw c.before.index.ensures at c.if1.false))
 
 pub change-tp-spec : {M : Type 1} → statement M

@@ -1,5 +1,5 @@
 use Rattle.repeater.specs.Repeater.{followed}
-use Rattle.repeater.specs.Door.{eachPort}
+use Rattle.repeater.specs.Door.{each_port}
 use borrow.Author.Rules.{rules}
 use Rattle.repeater.proofs.Repeater.follow.Statement.{statement}
 use Rattle.repeater.proofs.Repeater.follow.Tie as tie
@@ -17,7 +17,7 @@ mark-requires : tie.Need-mark-requires
 mark-requires c κs = search rules
 
 returns : tie.Need-returns
-unfolding followed eachPort
+unfolding followed each_port
 returns c =
     let l = c.before.before.before.before in
     rw (c.mark.ensures, c.before.ports-after.ensures, l.marks.ensures, l.before.effect.ensures)

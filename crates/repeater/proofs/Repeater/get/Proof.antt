@@ -1,4 +1,4 @@
-use Rattle.repeater.specs.Repeater.{gotOf}
+use Rattle.repeater.specs.Repeater.{got_of}
 use borrow.Author.Rules.{rules}
 use Rattle.repeater.proofs.Repeater.get.Statement.{statement}
 use Rattle.repeater.proofs.Repeater.get.Tie as tie
@@ -10,7 +10,7 @@ clear-requires : tie.Need-clear-requires
 clear-requires c κs = search rules
 
 returns : tie.Need-returns
-unfolding gotOf
+unfolding got_of
 returns c = rw (c.before.before.answer.ensures, c.clear.ensures)
 
 pub get_spec : {M : Type 1} → statement M

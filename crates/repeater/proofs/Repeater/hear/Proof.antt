@@ -1,4 +1,4 @@
-use Rattle.repeater.proofs.RepeaterLaws.{hearing-made}
+use Rattle.repeater.proofs.RepeaterLaws.{hearing_made}
 use borrow.Author.Rules.{rules}
 use Rattle.repeater.proofs.Repeater.hear.Statement.{statement}
 use Rattle.repeater.proofs.Repeater.hear.Tie as tie
@@ -18,7 +18,7 @@ count-heard-requires c κs = search rules
 returns : tie.Need-returns
 returns c =
     let l = c.before.before in
-    hearing-made _ _ _ _ _ _ l.before.active.ensures l.those.ensures c.before.those2.ensures c.count-heard.ensures
+    hearing_made _ _ _ _ _ _ l.before.active.ensures l.those.ensures c.before.those2.ensures c.count-heard.ensures
 
 pub hear-spec : {M : Type 1} → statement M
 hear-spec =

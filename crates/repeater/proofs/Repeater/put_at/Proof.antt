@@ -1,5 +1,5 @@
 use mathlib.Core.Path.{ap}
-use Rattle.repeater.specs.Door.{withPorts, put_at}
+use Rattle.repeater.specs.Door.{with_ports, put_at}
 use borrow.Author.Rules.{rules}
 use Rattle.repeater.proofs.Repeater.put_at.Statement.{statement}
 use Rattle.repeater.proofs.Repeater.put_at.Tie as tie
@@ -9,7 +9,7 @@ put-requires c κs = search rules
 
 returns : tie.Need-returns
 unfolding put_at
-returns c = ap (withPorts c.before.before.args.self) c.put.ensures
+returns c = ap (with_ports c.before.before.args.self) c.put.ensures
 
 pub put-at-spec : {M : Type 1} → statement M
 put-at-spec = tie.close (tie.spec put-requires returns)

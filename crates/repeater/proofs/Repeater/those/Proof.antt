@@ -1,6 +1,6 @@
 use mathlib.Core.Path.{sym, ap, ◌∙◌}
-use Rattle.repeater.specs.Door.{portAt}
-use Rattle.repeater.specs.Repeater.{among, thoseOf}
+use Rattle.repeater.specs.Door.{port_at}
+use Rattle.repeater.specs.Repeater.{among, those_of}
 use Rattle.repeater.specs.declared.Those.{Those}
 use borrow.Author.Rules.{rules}
 use Rattle.repeater.proofs.Repeater.those.Statement.{statement}
@@ -37,24 +37,24 @@ enabled-requires : tie.Need-enabled-requires
 enabled-requires c κs = search rules
 
 returns : tie.Need-returns
-unfolding thoseOf among portAt
-returns c = c.transmitting.ensures ∙ sym (ap (λ (k : Those). thoseOf k c.before.before.before.before.args.self) c.before.enum_told.given.1)
+unfolding those_of among port_at
+returns c = c.transmitting.ensures ∙ sym (ap (λ (k : Those). those_of k c.before.before.before.before.args.self) c.before.enum_told.given.1)
 
 returns-2 : tie.Need-returns-2
-unfolding thoseOf among portAt
-returns-2 c = c.listening.ensures ∙ sym (ap (λ (k : Those). thoseOf k c.before.before.before.before.args.self) c.before.enum-told2.given.1)
+unfolding those_of among port_at
+returns-2 c = c.listening.ensures ∙ sym (ap (λ (k : Those). those_of k c.before.before.before.before.args.self) c.before.enum-told2.given.1)
 
 returns-3 : tie.Need-returns-3
-unfolding thoseOf among portAt
-returns-3 c = c.partitioned.ensures ∙ sym (ap (λ (k : Those). thoseOf k c.before.before.before.before.args.self) c.before.enum-told3.given.1)
+unfolding those_of among port_at
+returns-3 c = c.partitioned.ensures ∙ sym (ap (λ (k : Those). those_of k c.before.before.before.before.args.self) c.before.enum-told3.given.1)
 
 returns-4 : tie.Need-returns-4
-unfolding thoseOf among portAt
-returns-4 c = c.linked.ensures ∙ sym (ap (λ (k : Those). thoseOf k c.before.before.before.before.args.self) c.before.enum-told4.given.1)
+unfolding those_of among port_at
+returns-4 c = c.linked.ensures ∙ sym (ap (λ (k : Those). those_of k c.before.before.before.before.args.self) c.before.enum-told4.given.1)
 
 returns-5 : tie.Need-returns-5
-unfolding thoseOf among portAt
-returns-5 c = c.enabled.ensures ∙ sym (ap (λ (k : Those). thoseOf k c.before.before.before.before.args.self) c.before.enum-told5.given.1)
+unfolding those_of among port_at
+returns-5 c = c.enabled.ensures ∙ sym (ap (λ (k : Those). those_of k c.before.before.before.before.args.self) c.before.enum-told5.given.1)
 
 pub those-spec : {M : Type 1} → statement M
 those-spec =
