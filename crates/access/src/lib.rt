@@ -1,5 +1,7 @@
 // The host's accesses on the chip: what each register holds, what reading and writing it does, and the four accesses. The register map and the byte
 // sequences are the crate host's.
+#![tactic(auto)]
+
 ghost use Rattle.std.specs.Prelude.{◌+◌, ◌≤◌, ◌≡◌, cond};
 ghost use Rattle.ports.specs.Sets.{nobody};
 ghost use Rattle.attributes.specs.Flat.{nine_of};
@@ -14,7 +16,7 @@ use management::{Command, Query, Setting};
 use record::Access;
 
 // After an access: the port is the one whose address was written whole, or none.
-#[derive(Drop)]
+#[derive(Clone, Copy)]
 pub struct Acted {
     pub core: Core,
     pub host: Host,
@@ -23,7 +25,7 @@ pub struct Acted {
 }
 
 // What a written byte does by the role of its register: the core after it, and the port whose address it belongs to.
-#[derive(Drop)]
+#[derive(Clone, Copy)]
 struct Written {
     core: Core,
     port: usize,

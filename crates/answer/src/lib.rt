@@ -1,4 +1,6 @@
 // What a record is answered with, and the line that the run program prints for it. A line goes into a buffer that the caller lends.
+#![tactic(auto)]
+
 ghost use Rattle.std.specs.Prelude.{◌≡◌, [], ◌∷◌, ◌+◌, ◌*◌, ◌/◌, ◌≤◌, ◌<◌, length};
 ghost use Rattle.spelling.specs.Spelling.{least_first};
 ghost use Rattle.answer.specs.Numerals.{decimal, hex};
@@ -8,7 +10,7 @@ ghost use Rattle.answer.specs.Put.{Put, WrittenLine, room, longest_line, padded}
 use burst::Word;
 
 // What a record is answered with.
-#[derive(Drop)]
+#[derive(Clone, Copy)]
 pub enum Answer {
     // Accepted, with nothing to tell: a pulse, a tick, a C write, a D write or a reset.
     Done,

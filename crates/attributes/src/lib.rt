@@ -1,5 +1,7 @@
 // What the HIMIB counts: the nine ports' counters and last source addresses, and what a burst is credited with. Nine is what the rules speak of, Flat how it is
 // kept; no crate above knows a counter's place. A burst and an address write store what they change in arrays that they are lent.
+#![tactic(auto)]
+
 ghost use Rattle.std.specs.Prelude.{◌≡◌, ◌<◌, ◌&&◌, [], if◌then◌else◌, nat_eq};
 ghost use Rattle.ports.specs.Sets.{port_count, has};
 ghost use Rattle.attributes.specs.Nine.{counter_count, nothing_counted, counter_of, address_of, with_port};
@@ -14,20 +16,20 @@ use record::Burst;
 pub mod octets;
 
 // One port's thirteen counters, by register, and its last source address.
-#[derive(Drop)]
+#[derive(Clone, Copy)]
 pub struct Attributes {
     pub counters: [u32; 13],
     pub address: [u8; 6],
 }
 
 // All nine ports'.
-#[derive(Drop)]
+#[derive(Clone, Copy)]
 pub struct Nine {
     pub ports: [Attributes; 9],
 }
 
 // How they are kept: every counter, first by register and then by port; and the addresses, one port's six bytes after the other's.
-#[derive(Drop)]
+#[derive(Clone, Copy)]
 pub struct Flat {
     pub counters: [u32; Flat::COUNTERS],
     pub addresses: [u8; Flat::ADDRESSES],
@@ -35,7 +37,7 @@ pub struct Flat {
 
 // A burst as the chip met it: the heard ports, the single one of them or NONE, whether it is a collision for the credits, the ports that it
 // partitioned, and the short event limit.
-#[derive(Drop)]
+#[derive(Clone, Copy)]
 pub struct Met {
     pub heard: u16,
     pub single: usize,
@@ -46,7 +48,7 @@ pub struct Met {
 
 // What a burst is credited with, worked out once. Single is the port that the class goes to, or NONE; in changed are the ports whose address
 // changes; octets go to Total Octets.
-#[derive(Drop)]
+#[derive(Clone, Copy)]
 pub struct Due {
     pub heard: u16,
     pub single: usize,
@@ -58,7 +60,7 @@ pub struct Due {
 }
 
 // What part a port has in a burst.
-#[derive(Drop)]
+#[derive(Clone, Copy)]
 pub struct Share {
     pub heard: bool,
     pub single: bool,

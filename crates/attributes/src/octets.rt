@@ -4,7 +4,7 @@ ghost use Rattle.attributes.specs.Octets.{difference_of, check_of, total_after, 
 
 use crate::Attributes;
 
-#[derive(Drop)]
+#[derive(Clone, Copy)]
 pub enum Check {
     Yes,
     No,
@@ -40,7 +40,7 @@ pub fn octet_check(frames: u32, octets: u32) -> Check
 }
 
 // What the differences of many readings add up to, or that 64 bits do not hold it.
-#[derive(Drop)]
+#[derive(Clone, Copy)]
 pub enum Total {
     Sum(u64),
     TooLarge,

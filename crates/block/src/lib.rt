@@ -1,4 +1,6 @@
 // A block of records answered: the function that the run program calls with what it has read.
+#![tactic(auto)]
+
 ghost use Rattle.block.specs.Block.{standing, came_to, Answered, AnsweredPiece};
 
 use answer::Answer;
@@ -9,7 +11,7 @@ use record::{Access, Asked, Record};
 
 // How far a block came: the chip and the host's record after it, the number of the next record, and how many bytes of the input were taken and of the
 // buffer used.
-#[derive(Drop)]
+#[derive(Clone, Copy)]
 pub struct Block {
     pub core: Core,
     pub flat: Flat,

@@ -1,6 +1,8 @@
 // A burst by itself: what is heard of it, what follows for the wire, and what it is for the ports: which it sends data to, is clean and lasts for,
 // connects again.
 // The ports' own steps are in the crates port and repeater.
+#![tactic(auto)]
+
 ghost use Rattle.std.specs.Prelude.{◌≡◌, ◌&&◌, eqb};
 ghost use Rattle.ports.specs.Sets.{set_of};
 ghost use Rattle.burst.specs.Burst.{in_e, heard_of, signalled, word_of_one, effect_with, effect_of};
@@ -11,7 +13,7 @@ use management::Status;
 use port::Port;
 
 // A burst, from idle to idle, as its record has it.
-#[derive(Drop)]
+#[derive(Clone, Copy)]
 pub struct Activity {
     pub mask: u16,
     pub rate_error: bool,
@@ -23,13 +25,13 @@ pub struct Activity {
 }
 
 // What the expansion bus brings while a burst lasts.
-#[derive(Drop)]
+#[derive(Clone, Copy)]
 pub enum Bus {
     Nothing,
 }
 
 // What the repeater does with a burst: nothing, data or jam.
-#[derive(Drop)]
+#[derive(Clone, Copy)]
 pub enum Word {
     Nil,
     Rep,
@@ -37,7 +39,7 @@ pub enum Word {
 }
 
 // How many ports are heard, and which where it is one.
-#[derive(Drop)]
+#[derive(Clone, Copy)]
 pub enum Heard {
     Nothing,
     One(usize),
@@ -45,7 +47,7 @@ pub enum Heard {
 }
 
 // The first half: the active ports, those sent to, those heard, and their number.
-#[derive(Drop)]
+#[derive(Clone, Copy)]
 pub struct Hearing {
     pub e: u16,
     pub t: u16,
@@ -55,7 +57,7 @@ pub struct Hearing {
 
 // The second half: the word, where it goes, who collides, the single heard port or no port, whether it is a collision for the credits, and whether
 // two or more are heard.
-#[derive(Drop)]
+#[derive(Clone, Copy)]
 pub struct Effect {
     pub word: Word,
     pub out: u16,

@@ -1,5 +1,7 @@
 // Readings of one counter as bytes, four each, the least significant first. What their differences add up to is carried from one stretch of input to the
 // next.
+#![tactic(auto)]
+
 ghost use Rattle.std.specs.Prelude.{◌≡◌, ◌/◌, ◌≤◌, length, take};
 ghost use Rattle.chain.specs.Chain.{reading_length, readings_in, none, onward};
 
@@ -7,7 +9,7 @@ use attributes::octets;
 use attributes::octets::Total;
 
 // How far the readings of one counter have come: the sum of their differences, the last of them, and whether there was one.
-#[derive(Drop)]
+#[derive(Clone, Copy)]
 pub struct Chain {
     pub total: Total,
     pub last: u32,

@@ -1,4 +1,6 @@
 // The change bits of P 1, the enables of P 2 and the interrupt, each as the bytes of registers R 0 to R 7. Nothing of the chip is in it.
+#![tactic(auto)]
+
 ghost use Rattle.std.specs.Prelude.{◌≡◌, get_or, set};
 ghost use Rattle.changes.specs.Changes.{bit7, tp_byte, aui_bit, events_of, noted, kept_bits, pending};
 

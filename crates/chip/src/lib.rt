@@ -1,5 +1,7 @@
 // The chip's state: the core (the repeater, the change bits and their enables, what a reset keeps, the interface error, G) and the nine ports' attributes.
 // Power-up and reset; and what is noted when the repeater has moved. Chip and Supply are what the rules speak of, FlatChip and FlatSupply how they are kept.
+#![tactic(auto)]
+
 ghost use Rattle.std.specs.Prelude.{◌≡◌, false};
 ghost use Rattle.repeater.specs.Repeater.{quieted};
 ghost use Rattle.chip.specs.Chip.{usual, fits, refusal_of, settled_of, with_choices, core_up, powered_up, core_reset, moved_by, moved, one, totalled};
@@ -10,13 +12,13 @@ use ports::Quiet;
 use repeater::Repeater;
 
 // What is chosen at power-up, for good: below how many bit times a burst is a short event.
-#[derive(Drop)]
+#[derive(Clone, Copy)]
 pub struct Choices {
     pub short_limit: u32,
 }
 
 // What a reset keeps of the core: the chip's own two counters, and what was chosen.
-#[derive(Drop)]
+#[derive(Clone, Copy)]
 pub struct Kept {
     pub transmit_collisions: u32,
     pub total_octets: u32,
@@ -24,7 +26,7 @@ pub struct Kept {
 }
 
 // Of the orders that were tried, the run program takes fewest instructions with this one (bench/README.md).
-#[derive(Drop)]
+#[derive(Clone, Copy)]
 pub struct Core {
     pub repeater: Repeater,
     pub interface_error: bool,
@@ -35,39 +37,39 @@ pub struct Core {
 }
 
 // What power-up is given by the caller.
-#[derive(Drop)]
+#[derive(Clone, Copy)]
 pub struct Supply {
     pub attributes: Nine,
     pub kept: Kept,
 }
 
-#[derive(Drop)]
+#[derive(Clone, Copy)]
 pub struct Chip {
     pub core: Core,
     pub attributes: Nine,
 }
 
 // What power-up gives: 0 and the chip, or the number that it was turned away with, and beside it a chip with the usual choices that nobody runs.
-#[derive(Drop)]
+#[derive(Clone, Copy)]
 pub struct Powered {
     pub number: u8,
     pub chip: Chip,
 }
 
 // The same three, the attributes as they are kept.
-#[derive(Drop)]
+#[derive(Clone, Copy)]
 pub struct FlatSupply {
     pub flat: Flat,
     pub kept: Kept,
 }
 
-#[derive(Drop)]
+#[derive(Clone, Copy)]
 pub struct FlatChip {
     pub core: Core,
     pub flat: Flat,
 }
 
-#[derive(Drop)]
+#[derive(Clone, Copy)]
 pub struct FlatPowered {
     pub number: u8,
     pub chip: FlatChip,

@@ -6,6 +6,8 @@
 //
 // The masks are in hexadecimal. SILENT is the links after 100 ticks more, ALTERNATE a digit for AUI and one for TP.
 // AUI, RATES and MJLP are the status as three Gets would report it afterwards.
+#![tactic(auto)]
+
 use burst::Activity;
 use libc::STDOUT_FILENO;
 use management::{Command, Query, Setting};

@@ -5,6 +5,8 @@
 //     Readable Octets,64,0,0,0,0,0,0,0,0
 //
 // The second argument may name a start file. How many records were turned away is told on standard error.
+#![tactic(auto)]
+
 ghost use Rattle.std.specs.Prelude.{◌≡◌};
 ghost use Rattle.tally.specs.Tally.{came_to};
 ghost use Rattle.tally.specs.Blocks.{onward};
@@ -17,14 +19,14 @@ use libc::{STDERR_FILENO, STDIN_FILENO, STDOUT_FILENO};
 use tally::Tallied;
 
 // The attributes that are asked for: those from a register on, up to another. A word that names none asks for nothing.
-#[derive(Drop)]
+#[derive(Clone, Copy)]
 struct Asked {
     first: usize,
     end: usize,
 }
 
 // After one reading: what the records leave so far, and whether to go on.
-#[derive(Drop)]
+#[derive(Clone, Copy)]
 struct Turn {
     state: Tallied,
     going: bool,

@@ -1,5 +1,7 @@
 // The HIMIB of document 01, above the repeater: a burst on the whole chip, and one record of any bytes. It uses what the crates below promise, and nothing
 // else of them.
+#![tactic(auto)]
+
 ghost use Rattle.std.specs.Prelude.{◌≡◌};
 ghost use Rattle.chip.specs.Flat.{holding, chip_of};
 ghost use Rattle.himib.specs.Bursts.{activity_of};
@@ -15,7 +17,7 @@ use host::Host;
 use record::{Access, Asked, Burst};
 
 // What the rules speak of: after a burst, but for the attributes, the core, what is to be credited, and the answer;
-#[derive(Drop)]
+#[derive(Clone, Copy)]
 pub struct Noted {
     pub core: Core,
     pub due: Due,
@@ -23,7 +25,7 @@ pub struct Noted {
 }
 
 // after a burst;
-#[derive(Drop)]
+#[derive(Clone, Copy)]
 pub struct Credited {
     pub core: Core,
     pub attributes: Nine,
@@ -31,7 +33,7 @@ pub struct Credited {
 }
 
 // after any record.
-#[derive(Drop)]
+#[derive(Clone, Copy)]
 pub struct Stepped {
     pub chip: Chip,
     pub host: Host,
@@ -39,14 +41,14 @@ pub struct Stepped {
 }
 
 // What the functions give back. After a burst: the counters and addresses stand in the arrays that were lent.
-#[derive(Drop)]
+#[derive(Clone, Copy)]
 pub struct Spoken {
     pub core: Core,
     pub answer: Answer,
 }
 
 // After any record, likewise;
-#[derive(Drop)]
+#[derive(Clone, Copy)]
 pub struct Followed {
     pub core: Core,
     pub host: Host,
@@ -54,7 +56,7 @@ pub struct Followed {
 }
 
 // and by value.
-#[derive(Drop)]
+#[derive(Clone, Copy)]
 pub struct Left {
     pub chip: FlatChip,
     pub host: Host,

@@ -1,5 +1,7 @@
 // The host's side of the registers: the small record of an access (selection, copied bytes, byte place, direction), the map
 // from a page P and a register number R to a register's row, and the byte sequences. What the registers hold is the caller's.
+#![tactic(auto)]
+
 ghost use Rattle.std.specs.Prelude.{◌≡◌, ◌%◌, get_or, set};
 ghost use Rattle.host.specs.Bytes.{spread_of, single_of};
 ghost use Rattle.host.specs.Map.{row_at, row, no_row, read, write, both, within, bit_registers};
@@ -8,7 +10,7 @@ ghost use Rattle.host.specs.Sequence.{power_up, restarted, selected, place_for, 
 
 // What only power-up, resets and accesses alter: the selection, the six copied bytes, the place of the next byte, and whether
 // the last accepted D access was a write.
-#[derive(Drop)]
+#[derive(Clone, Copy)]
 pub struct Host {
     pub page: u8,
     pub register: u8,
@@ -19,7 +21,7 @@ pub struct Host {
 
 // A register. `Version` is R 28 of page 0, `SetPort` and `GetPort` are S and G. `Change` and `Enable` hold their R, `Counter` its
 // port (0 to 7 are TP0 to TP7, 8 is AUI) and its R, `Address` its port.
-#[derive(Drop)]
+#[derive(Clone, Copy)]
 pub enum Register {
     Unlisted,
     TransmitCollisions,
@@ -35,7 +37,7 @@ pub enum Register {
 
 // What an access to a register does to the chip, beside giving its value: nothing; the read clears the change bits of an R; the
 // write is a command (through G, or else through S); it sets the enables of an R; it sets the address of a port.
-#[derive(Drop)]
+#[derive(Clone, Copy)]
 pub enum Role {
     Plain,
     Cleared(u8),
@@ -46,7 +48,7 @@ pub enum Role {
 
 // A row of the map: a register, how many bytes it has, the ways in which it may be accessed, its role. What is not listed has
 // no bytes.
-#[derive(Drop)]
+#[derive(Clone, Copy)]
 pub struct Row {
     pub register: Register,
     pub size: u8,
@@ -56,14 +58,14 @@ pub struct Row {
 }
 
 // A byte that was read, and the record after it.
-#[derive(Drop)]
+#[derive(Clone, Copy)]
 pub struct Reading {
     pub host: Host,
     pub byte: u8,
 }
 
 // The record after a byte was written, and whether that was the register's last.
-#[derive(Drop)]
+#[derive(Clone, Copy)]
 pub struct Writing {
     pub host: Host,
     pub complete: bool,

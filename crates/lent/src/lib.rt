@@ -1,5 +1,7 @@
 // The host's record, lent: the caller keeps it, and each access alters it where it stands. The work is done by value; the functions here
 // take the record out whole and put it back whole. It starts as `host::Host::power_up()`, and that is what a reset leaves in it.
+#![tactic(auto)]
+
 ghost use Rattle.std.specs.Prelude.{◌≡◌};
 ghost use Rattle.chip.specs.Flat.{chip_of};
 ghost use Rattle.himib.specs.Step.{step_of};
@@ -15,7 +17,7 @@ use host::Host;
 use record::{Access, Asked, Record};
 
 // What comes back beside the lent record.
-#[derive(Drop)]
+#[derive(Clone, Copy)]
 pub struct Rest {
     pub chip: FlatChip,
     pub answer: Answer,

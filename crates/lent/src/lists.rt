@@ -11,7 +11,7 @@ use host::Host;
 use record::Record;
 
 // What is told of an answer: the number of its word, and the mask, byte or number beside it.
-#[derive(Drop)]
+#[derive(Clone, Copy)]
 pub struct Told {
     pub word: u8,
     pub low: u8,

@@ -1,9 +1,11 @@
 // Management: which byte is which command, and the status bits that the Get commands report: B, S and L of AUI, the TP ports' bit rate errors, and M (MJLP).
+#![tactic(auto)]
+
 ghost use Rattle.std.specs.Prelude.{◌≡◌};
 ghost use Rattle.management.specs.Commands.{command_of, row_of};
 ghost use Rattle.management.specs.Status.{clear_status, marked, cleared_by};
 
-#[derive(Drop)]
+#[derive(Clone, Copy)]
 pub enum Setting {
     AlternateAui,
     AlternateTp,
@@ -15,7 +17,7 @@ pub enum Setting {
     LinkTestOn(u8),
 }
 
-#[derive(Drop)]
+#[derive(Clone, Copy)]
 pub enum Query {
     Aui,
     AuiClearB,
@@ -28,7 +30,7 @@ pub enum Query {
     Version,
 }
 
-#[derive(Drop)]
+#[derive(Clone, Copy)]
 pub enum Command {
     Set(Setting),
     Get(Query),
@@ -70,7 +72,7 @@ fn decode_row(byte: u8) -> Command
     }
 }
 
-#[derive(Drop)]
+#[derive(Clone, Copy)]
 pub struct Status {
     pub rate: bool,
     pub sqe: bool,

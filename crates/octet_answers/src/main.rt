@@ -6,6 +6,8 @@
 //
 // A pair is sixteen bytes: frames earlier and later, octets earlier and later, each in four bytes, the least significant first. At most 4,096 pairs are
 // read, and a piece that is not whole is left out.
+#![tactic(auto)]
+
 use attributes::octets;
 use attributes::octets::Check;
 use libc::{STDIN_FILENO, STDOUT_FILENO};

@@ -3,6 +3,8 @@
 //
 // The step is called from two places, so that the compiler keeps it as a function of its own. tests/frames.py reads in the built program how much stack
 // it takes.
+#![tactic(auto)]
+
 use answer::Answer;
 use attributes::Flat;
 use chip::{Choices, FlatChip, FlatSupply, Kept};
@@ -11,7 +13,7 @@ use libc::STDOUT_FILENO;
 use record::Record;
 
 // A chip and the host's record.
-#[derive(Drop)]
+#[derive(Clone, Copy)]
 struct State {
     chip: FlatChip,
     host: Host,

@@ -1,5 +1,7 @@
 // Document 01, sections 'Record' and 'Numbers turned away with': any bytes are taken apart into what they ask for, or are
 // turned away with 9, 8, 3, 2, 1 or 7. There is no state. The numbers 5, 6, 4 and 10 are not decided here.
+#![tactic(auto)]
+
 ghost use Rattle.std.specs.Prelude.{◌≡◌, cond, ℕ, ◌+◌, ◌*◌, ◌≤◌, ◌<◌, ltb, length};
 ghost use Rattle.std.specs.Int.Bits.{bit_or};
 ghost use Rattle.spelling.specs.Spelling.{spelt};
@@ -10,7 +12,7 @@ ghost use Rattle.record.specs.Refusals.{bad_numbers, nothing_active, selects_nei
 use ports::Quiet;
 
 // A burst as the record has it, with its five flags one by one.
-#[derive(Drop)]
+#[derive(Clone, Copy)]
 pub struct Burst {
     pub mask: u16,
     pub fcs_bad: bool,
@@ -26,7 +28,7 @@ pub struct Burst {
 }
 
 // The host's accesses: a byte written to C or D, or one asked for.
-#[derive(Drop)]
+#[derive(Clone, Copy)]
 pub enum Access {
     WriteC(u8),
     WriteD(u8),
@@ -35,7 +37,7 @@ pub enum Access {
 }
 
 // What a record asks for, or the number that it is turned away with.
-#[derive(Drop)]
+#[derive(Clone, Copy)]
 pub enum Asked {
     Burst(Burst),
     Quiet(Quiet),
@@ -46,7 +48,7 @@ pub enum Asked {
 
 // A record taken apart. The source address has the record's bytes 24 to 29 in order; it is all zero beside a refusal, and
 // beside all that is no burst.
-#[derive(Drop)]
+#[derive(Clone, Copy)]
 pub struct Record {
     pub asked: Asked,
     pub source: [u8; 6],

@@ -1,5 +1,7 @@
 // The repeater chip, an IMR+ (Am79C981): its nine ports with their algorithms, and its status. Here stands what bursts, link pulses, ticks and commands do
 // to it, and what may be asked of it. It knows nothing of the HIMIB, which stands above it on these contracts.
+#![tactic(auto)]
+
 ghost use Rattle.std.specs.Prelude.{◌*◌, ◌%◌, ◌≤◌, ◌≡◌, cond, ◌&&◌, eqb, ltb};
 ghost use Rattle.ports.specs.Sets.{aui, has, set_of};
 ghost use Rattle.port.specs.Link.{ticked_at, pulsed_at};
@@ -18,7 +20,7 @@ use port::{Change, Port};
 use ports::Quiet;
 use store::{Meetings, Ports};
 
-#[derive(Drop)]
+#[derive(Clone, Copy)]
 pub struct Repeater {
     pub ports: Ports,
     pub alternate_aui: bool,
@@ -27,7 +29,7 @@ pub struct Repeater {
 }
 
 // The repeater after a burst, and everything about the burst that the layer above may know.
-#[derive(Drop)]
+#[derive(Clone, Copy)]
 pub struct Bursted {
     pub repeater: Repeater,
     pub hearing: Hearing,
@@ -36,14 +38,14 @@ pub struct Bursted {
 }
 
 // The repeater after a Get, and the answer.
-#[derive(Drop)]
+#[derive(Clone, Copy)]
 pub struct Got {
     pub repeater: Repeater,
     pub value: u8,
 }
 
 // Which ports a mask is asked of.
-#[derive(Drop)]
+#[derive(Clone, Copy)]
 pub enum Those {
     Transmitting,
     Listening,

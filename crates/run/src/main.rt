@@ -1,5 +1,7 @@
 // The run program: reads records from standard input, has each whole block answered, and writes the lines. Everything that matters is in the library below it.
 // An optional argument names a start file with counters, addresses and choices.
+#![tactic(auto)]
+
 ghost use Rattle.std.specs.Prelude.{◌+◌, ◌≤◌, ◌<◌, ◌≡◌, length, take, drop};
 ghost use Rattle.record.specs.Record.{record_length};
 ghost use Rattle.run.specs.Kept.{buffer_length, Kept};
@@ -8,7 +10,7 @@ use chip::FlatChip;
 use host::Host;
 
 // Where the run stands: the chip, the host's record and the next record's number.
-#[derive(Drop)]
+#[derive(Clone, Copy)]
 struct State {
     chip: FlatChip,
     host: Host,
@@ -16,7 +18,7 @@ struct State {
 }
 
 // After the whole records of a reading: the state, how many bytes are left over, and how many bytes the lines have.
-#[derive(Drop)]
+#[derive(Clone, Copy)]
 struct Done {
     state: State,
     left: usize,
@@ -24,7 +26,7 @@ struct Done {
 }
 
 // After one reading: the state, the bytes of a record that is not whole yet, and whether to go on.
-#[derive(Drop)]
+#[derive(Clone, Copy)]
 struct Turn {
     state: State,
     have: usize,

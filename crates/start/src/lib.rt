@@ -1,4 +1,6 @@
 // The chip that a start file describes.
+#![tactic(auto)]
+
 ghost use Rattle.std.specs.Prelude.{◌+◌, ◌≤◌, ◌≡◌, length};
 ghost use Rattle.ports.specs.Sets.{port_count};
 ghost use Rattle.start.specs.Start.{counters_size, port_size, start_size};
@@ -13,7 +15,7 @@ use chip::{Chip, Choices, FlatChip, FlatSupply, Kept};
 
 // Whether the file fits, the short event limit that it asks for, the number that power-up answers, 0 or 13, and a chip. Nobody runs it beside a 13; where the file
 // does not fit it is the chip of a run without one. What the rules speak of,
-#[derive(Drop)]
+#[derive(Clone, Copy)]
 pub struct Started {
     pub fits: bool,
     pub limit: u32,
@@ -22,7 +24,7 @@ pub struct Started {
 }
 
 // and as it is kept.
-#[derive(Drop)]
+#[derive(Clone, Copy)]
 pub struct Opened {
     pub fits: bool,
     pub limit: u32,

@@ -1,5 +1,7 @@
 // How the nine ports are kept: sets of ports as masks, and for each place a row of the three numbers that a port counts. Only this crate knows it. What
 // is done to many ports goes through the places of a mask, the lowest first, one row at a time.
+#![tactic(auto)]
+
 ghost use Rattle.std.specs.Prelude.{◌-◌, ◌^◌, ◌<◌, ◌≡◌, true, false, cond, ◌&&◌, eqb, ltb, length, get_or, set};
 ghost use Rattle.std.specs.Int.Bits.{bit_or};
 ghost use Rattle.history.specs.History.{partitions_at, long_above};
@@ -12,7 +14,7 @@ ghost use Rattle.store.specs.Visits.{on_set, is_full, visited};
 use port::Port;
 
 // What a port counts: ticks without activity, pulses while its link fails, and collided bursts.
-#[derive(Drop)]
+#[derive(Clone, Copy)]
 pub struct Row {
     pub idle: u8,
     pub pulses: u8,
@@ -20,7 +22,7 @@ pub struct Row {
 }
 
 // The ports that are enabled, whose link is tested, whose link passes and that are partitioned; and their rows.
-#[derive(Drop)]
+#[derive(Clone, Copy)]
 pub struct Ports {
     pub enabled: u16,
     pub tested: u16,
@@ -31,7 +33,7 @@ pub struct Ports {
 
 // What a burst is for the ports: those sent to, those that collide, those that it is clean for and lasts, those that it connects again; and how long the
 // collision was.
-#[derive(Drop)]
+#[derive(Clone, Copy)]
 pub struct Meetings {
     pub t: u16,
     pub collided: u16,
@@ -42,7 +44,7 @@ pub struct Meetings {
 
 // What is done to a row: a tick; a pulse while the link passes, and while it fails; activity; a collision, with the count at which it partitions; a
 // clean burst.
-#[derive(Drop)]
+#[derive(Clone, Copy)]
 pub enum Visit {
     Tick,
     Hush,
@@ -53,7 +55,7 @@ pub enum Visit {
 }
 
 // The rows after a visit to some places, and the places whose row was full.
-#[derive(Drop)]
+#[derive(Clone, Copy)]
 pub struct Visited {
     pub rows: [Row; ports::COUNT],
     pub full: u16,

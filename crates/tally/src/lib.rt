@@ -1,4 +1,6 @@
 // All records of a stretch of input taken, for whoever asks what they leave and not what they are answered with.
+#![tactic(auto)]
+
 ghost use Rattle.std.specs.Prelude.{◌≤◌, ◌≡◌};
 ghost use Rattle.tally.specs.Tally.{end_of, refusal, came_to, standing, tally_of};
 
@@ -9,7 +11,7 @@ use host::Host;
 use record::Record;
 
 // What the records leave: the chip and the host's record, and how many of them were turned away.
-#[derive(Drop)]
+#[derive(Clone, Copy)]
 pub struct Tallied {
     pub core: Core,
     pub flat: Flat,

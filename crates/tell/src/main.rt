@@ -1,5 +1,7 @@
 // The program tell: reads records from standard input, as many as have come, and writes for each the line that tells it. What it reads is taken as the run
 // program takes it, and the optional argument is the same start file.
+#![tactic(auto)]
+
 ghost use Rattle.std.specs.Prelude.{◌≡◌, ◌+◌, ◌≤◌, length};
 ghost use Rattle.telling.specs.Telling.{longest};
 ghost use Rattle.tell.specs.Taken.{input_length, output_length, Taken};
@@ -9,7 +11,7 @@ use host::Host;
 use record::Record;
 
 // Where the run stands: the chip, the host's record and the next record's number.
-#[derive(Drop)]
+#[derive(Clone, Copy)]
 struct State {
     chip: FlatChip,
     host: Host,
@@ -17,14 +19,14 @@ struct State {
 }
 
 // After some records: the state, and how many bytes their lines have.
-#[derive(Drop)]
+#[derive(Clone, Copy)]
 struct Done {
     state: State,
     used: usize,
 }
 
 // After one reading: the state, and whether to go on.
-#[derive(Drop)]
+#[derive(Clone, Copy)]
 struct Turn {
     state: State,
     going: bool,

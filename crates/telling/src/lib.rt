@@ -1,4 +1,6 @@
 // One record told: what it was answered with, and what it left of the chip, as a line in a buffer that the caller lends. docs/REFERENCE.md has the line.
+#![tactic(auto)]
+
 ghost use Rattle.std.specs.Prelude.{◌≡◌, cond, [], ◌∷◌, ◌+◌, ◌*◌, ◌≤◌, ◌<◌, length, get_or};
 ghost use Rattle.attributes.specs.Flat.{nine_of};
 ghost use Rattle.chip.specs.Flat.{chip_of};
@@ -13,7 +15,7 @@ use chip::{Core, FlatChip};
 use host::Host;
 
 // After a record: the chip, the host's record, and the place behind the line.
-#[derive(Drop)]
+#[derive(Clone, Copy)]
 pub struct Told {
     pub chip: FlatChip,
     pub host: Host,

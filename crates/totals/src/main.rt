@@ -4,6 +4,8 @@
 //     4294967298
 //
 // Where the input ends within a reading, or where the sum does not fit in 64 bits, that is told on standard error, and no sum is printed.
+#![tactic(auto)]
+
 ghost use Rattle.std.specs.Prelude.{◌≡◌};
 ghost use Rattle.totals.specs.Taken.{taken_on, outcome_of};
 
@@ -12,14 +14,14 @@ use chain::Chain;
 use libc::{STDERR_FILENO, STDIN_FILENO, STDOUT_FILENO};
 
 // What the readings so far come to, and how many bytes of the last stretch of input stand behind its last whole reading.
-#[derive(Drop)]
+#[derive(Clone, Copy)]
 struct Taken {
     chain: Chain,
     rest: usize,
 }
 
 // What there is to say at the end: that bytes are left over, that the sum does not fit, or the sum.
-#[derive(Drop)]
+#[derive(Clone, Copy)]
 enum Outcome {
     Left(usize),
     NoFit,
@@ -27,7 +29,7 @@ enum Outcome {
 }
 
 // After one stretch of input: what has come so far, and whether to go on.
-#[derive(Drop)]
+#[derive(Clone, Copy)]
 struct Turn {
     state: Taken,
     going: bool,
