@@ -16,8 +16,8 @@ HEAD = re.compile(rf"\s*(?:(?:pub|abbrev|unfoldable|private)\s+)*((?:{ID})(?:\s+
 NAMED = re.compile(rf"\s*(?:pub\s+)?(?:abbrev\s+|unfoldable\s+)?(?:data|record|ruleset|module)\s+({ID})")
 TOKEN = re.compile(r"[A-Za-z_Ͱ-Ͽℕℤ≢≡⊥'′·0-9*+-]+")
 # A lemma that would have a definition's name. port.py has turned the dash of these already.
-LEMMAS = ('asked_by', 'bytes_at', 'c_read', 'counter_at', 'met_at', 'moved_by', 'next_place', 'nothing_yet', 'quiet_at', 'read_as', 'read_at', 'read_back',
-          'read_by', 'row_on', 'tail_of', 'taken_in', 'too_long')
+LEMMAS = ('asked_by', 'c_read', 'counter_at', 'met_at', 'moved_by', 'next_place', 'nothing_yet', 'quiet_at', 'read_as', 'read_at', 'read_back',
+          'row_on', 'tail_of', 'taken_in', 'too_long')
 
 
 def snake(name):
@@ -69,7 +69,7 @@ def renamed():
         new = snake(name)
         if new != name and re.match(r"[A-Za-z]", name):
             table[name] = new
-    definitions = {new for old, new in table.items() if '-' not in old}
+    definitions = {new for old, new in table.items() if '-' not in old} | {'read_by', 'bytes_at'}  # port.py has turned these two
     for old, new in table.items():
         if '-' in old and new in definitions:
             table[old] = new + '_lem'

@@ -50,7 +50,8 @@ use Rattle.alone.proofs.CommandBytes.{byte_of, Told, command_told, get_byte}
 
 rate_next : (past : List Deed) (d : Deed) (i : ℕ) → i < 8 → rate_by i (d ∷ past) ≡ (not (clears_rates past d) && (mistimes i past d || rate_by i past))
 unfolding rate_by came_since
-rate_next past d i h = rw (ne_eqb i 8 (λ e. omega arith))
+rate_next past d i h =
+    ap (λ (b : Bool). not (cond b (clears_b past d) (clears_rates past d)) && (mistimes i past d || rate_by i past)) (ne_eqb i 8 (λ e. omega arith))
 
 abbrev rates_by : List Deed → ℕ
 rates_by past = gather 8 (λ i. rate_by i past)

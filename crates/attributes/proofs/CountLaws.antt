@@ -172,6 +172,7 @@ never class k (Class.later (Class.later Class.here)) e0 e2 e3 e4 e5 e6 = e3
 never class k (Class.later (Class.later (Class.later Class.here))) e0 e2 e3 e4 e5 e6 = e4
 never class k (Class.later (Class.later (Class.later (Class.later Class.here)))) e0 e2 e3 e4 e5 e6 = e5
 never class k (Class.later (Class.later (Class.later (Class.later (Class.later Class.here))))) e0 e2 e3 e4 e5 e6 = e6
+never class k (Class.later (Class.later (Class.later (Class.later (Class.later (Class.later x)))))) e0 e2 e3 e4 e5 e6 = elim x [ ]
 
 pub class_low : (class : ℕ) → Among class classes → class < counter_count
 class_low class Class.here = omega arith
@@ -180,6 +181,7 @@ class_low class (Class.later (Class.later Class.here)) = omega arith
 class_low class (Class.later (Class.later (Class.later Class.here))) = omega arith
 class_low class (Class.later (Class.later (Class.later (Class.later Class.here)))) = omega arith
 class_low class (Class.later (Class.later (Class.later (Class.later (Class.later Class.here))))) = omega arith
+class_low class (Class.later (Class.later (Class.later (Class.later (Class.later (Class.later x)))))) = elim x [ ]
 
 -- the ports of a set that is asked for, or none
 has_those : (b : Bool) (m i : ℕ) → has (cond b m 0) i ≡ (b && has m i)

@@ -133,6 +133,7 @@ class_credit s b r (later (later here)) = refl
 class_credit s b r (later (later (later here))) = refl
 class_credit s b r (later (later (later (later here)))) = refl
 class_credit s b r (later (later (later (later (later here))))) = refl
+class_credit s b r (later (later (later (later (later (later l)))))) = elim l [ ]
 
 -- A single heard port without collision gets exactly the class that its burst falls in.
 a_frame_credited : (alone.single ≡ true) × (credits_of alone frame ≡ 1 ∷ 64 ∷ 0 ∷ 0 ∷ 0 ∷ 0 ∷ 0 ∷ 0 ∷ 0 ∷ 0 ∷ 0 ∷ 0 ∷ 0 ∷ [])
