@@ -1,0 +1,10 @@
+use Rattle.port.specs.Settings.{changed}
+use Rattle.port.proofs.Port.stop_test.Goals as goal
+
+pub returns-then-self : goal.returns-then-self
+unfolding changed
+returns-then-self c = simp c.if-self.true
+
+pub returns : goal.returns
+unfolding changed
+returns c = simp c.if-self.false

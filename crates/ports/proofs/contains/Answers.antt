@@ -1,0 +1,10 @@
+use mathlib.Core.Path.{sym}
+use native.Mathlib.Omega.{arith}
+use Rattle.ports.proofs.Sets.{has_shift, has_past}
+use Rattle.ports.proofs.contains.Goals as goal
+
+pub returns-then-i-lt16 : goal.returns-then-i-lt16
+returns-then-i-lt16 c = has_shift _ _
+
+pub returns : goal.returns
+returns c = sym (has_past 16 _ _ (omega arith) (omega arith))
