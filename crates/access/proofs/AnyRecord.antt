@@ -20,7 +20,7 @@ use Rattle.answer.specs.declared.Answer.TheVariants.{Done, Value}
 use Rattle.chip.specs.declared.Core.{Core}
 use Rattle.access.specs.declared.Acted.{Acted}
 use Rattle.access.specs.declared.Written.{Written}
-use Rattle.access.specs.Access.{strange, turned_away, selected_by, value_of, read_by_lem, written_by, read_of, write_of, d_read_of, d_write_of}
+use Rattle.access.specs.Access.{strange, turned_away, selected_by, value_of, read_by, written_by, read_of, write_of, d_read_of, d_write_of}
 use Rattle.access.specs.Refusals.{is_refused}
 use Rattle.access.specs.Sheet.{up, counting_ports}
 use Rattle.access.proofs.Computing.{accessing}
@@ -51,7 +51,7 @@ module _ (c : Core) (h : Host) where
   read_first : (w : Row) (nine : Nine) → w.size ≤ h.place → read_of w c nine h ≡ read_of w c nine (restarted h)
   unfolding read_of
   read_first w nine l =
-      ap (λ (q : Reading). record { core = read_by_lem w.role c; host = q.host; answer = Value q.byte; port = nobody })
+      ap (λ (q : Reading). record { core = read_by w.role c; host = q.host; answer = Value q.byte; port = nobody })
       (reads_first w.size h (value_of c nine w.register) l)
 
   write_first : (w : Row) (b : ℕ) → w.size ≤ h.place → write_of w c h b ≡ write_of w c (restarted h) b

@@ -23,7 +23,7 @@ use Rattle.attributes.specs.declared.Nine.{Nine}
 use Rattle.chip.specs.declared.Core.{Core}
 use Rattle.chip.specs.Chip.{moved}
 use Rattle.access.specs.declared.Acted.{Acted}
-use Rattle.access.specs.Access.{read_by_lem, obeyed, strange, written_by, turned_away, selected_by, c_read_of, read_of, write_of, d_read_of, d_write_of, served}
+use Rattle.access.specs.Access.{read_by, obeyed, strange, written_by, turned_away, selected_by, c_read_of, read_of, write_of, d_read_of, d_write_of, served}
 
 abbrev pub stored : Row → Core → Host → ℕ → Acted
 stored row c h b = record {
@@ -64,8 +64,8 @@ module _ (c : Core) where
   obeyed_kept through_g (Get q) = refl
   obeyed_kept through_g Unlisted = refl
 
-  read_kept : (role : Role) → Same (read_by_lem role c)
-  unfolding read_by_lem
+  read_kept : (role : Role) → Same (read_by role c)
+  unfolding read_by
   read_kept Plain = refl
   read_kept (Cleared r) = refl
   read_kept (Commands through_g) = refl

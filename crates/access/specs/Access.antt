@@ -2,7 +2,7 @@
 -- role are the rows of host/specs/Map; the byte sequences are host/specs/Sequence's.
 --   value_of c nine register == the six bytes that a register holds
 --   number_of c nine register == the number in one of four bytes
---   read_by_lem role c           == the core after a read, by the register's role: a change register is cleared by it
+--   read_by role c           == the core after a read, by the register's role: a change register is cleared by it
 --   obeyed through_g k c     == the core after the command k, written to G or else to S
 --   strange role b          == the register takes commands, and b is none
 --   written_by role b c      == what a written byte does, by the register's role
@@ -62,12 +62,12 @@ number_of c nine (reg.Enable r) = 0
 number_of c nine (reg.Counter p r) = counter_of nine p r
 number_of c nine (reg.Address p) = 0
 
-unfoldable pub read_by_lem : Role → Core → Core
-read_by_lem Plain c = c
-read_by_lem (Cleared r) c = with_changes c (set c.changes r 0)
-read_by_lem (Commands through_g) c = c
-read_by_lem (Enables r) c = c
-read_by_lem (Address p) c = c
+unfoldable pub read_by : Role → Core → Core
+read_by Plain c = c
+read_by (Cleared r) c = with_changes c (set c.changes r 0)
+read_by (Commands through_g) c = c
+read_by (Enables r) c = c
+read_by (Address p) c = c
 
 -- a command through the wrong register is carried out all the same, and marks the interface error; what a Get gives stands in G, and a Set leaves G alone
 unfoldable pub obeyed : Bool → Command → Core → Core
@@ -119,7 +119,7 @@ c_read_of c h =
 unfoldable pub read_of : Row → Core → Nine → Host → Acted
 read_of row c nine h =
     let q : Reading = read_byte row.size (value_of c nine row.register) h in
-    record { core = read_by_lem row.role c; host = q.host; answer = Value q.byte; port = nobody }
+    record { core = read_by row.role c; host = q.host; answer = Value q.byte; port = nobody }
 
 unfoldable pub write_of : Row → Core → Host → ℕ → Acted
 write_of row c h b =

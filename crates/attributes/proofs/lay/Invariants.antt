@@ -1,0 +1,11 @@
+use Rattle.std.proofs.Common.{◌-◌, ◌≤◌, arith, rules}
+use Rattle.attributes.specs.Nine.{counter_count}
+use Rattle.attributes.proofs.CountLaws.{Lays, laid_none, laid_more, laid_all_lem}
+use borrow.Author.Rules.{rules}
+use Rattle.attributes.proofs.lay.Given as goal
+
+abbrev pub invariant-loop-r : goal.invariant-loop-r
+invariant-loop-r l = (l.r ≤ counter_count) × Lays l.i l.numbers l.initial.counters l.r l.counters
+
+abbrev pub decreases-loop-r : goal.decreases-loop-r
+decreases-loop-r l = counter_count - l.r

@@ -1,0 +1,7 @@
+use Rattle.chip.specs.Chip.{moved}
+use Rattle.std.proofs.Common.{rules}
+use Rattle.chip.proofs.Core.move_to.Goals as goal
+
+pub returns : goal.returns
+unfolding moved
+returns c = rw (c.move_by.ensures, c.partitioned-2.ensures, c.partitioned.ensures)
