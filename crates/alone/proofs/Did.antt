@@ -40,7 +40,7 @@ use Rattle.attributes.specs.declared.Nine.{Nine}
 use Rattle.chip.specs.declared.Core.{Core}
 use Rattle.chip.specs.Chip.{moved}
 use Rattle.access.specs.declared.Acted.{Acted}
-use Rattle.access.specs.Access.{read_by_lem, obeyed, is_listed, strange, written_by, turned_away, selected_by, c_read_of, read_of, write_of, d_read_of, d_write_of, served}
+use Rattle.access.specs.Access.{read_by, obeyed, is_listed, strange, written_by, turned_away, selected_by, c_read_of, read_of, write_of, d_read_of, d_write_of, served}
 use Rattle.himib.specs.Bursts.{burst_core, noted_on, burst_on}
 use Rattle.himib.specs.Step.{after_access, taken, step_of}
 use Rattle.himib.specs.Runs.{Point, repeater_at}
@@ -64,9 +64,9 @@ pub role_size_lem : (p r : ℕ) → (row_at p r).size ≡ role_size (row_at p r)
 unfolding table
 role_size_lem p r = every_row (λ w. w.size) (λ w. role_size w.role w.size) p r (λ i q. refl)
 
-read_from_lem : (c : Core) (p r : ℕ) → read_by_lem (row_at p r).role c ≡ read_from (row_at p r).register c
-unfolding table read_by_lem read_from
-read_from_lem c p r = every_row (λ w. read_by_lem w.role c) (λ w. read_from w.register c) p r (λ i q. refl)
+read_from_lem : (c : Core) (p r : ℕ) → read_by (row_at p r).role c ≡ read_from (row_at p r).register c
+unfolding table read_by read_from
+read_from_lem c p r = every_row (λ w. read_by w.role c) (λ w. read_from w.register c) p r (λ i q. refl)
 
 -- WHAT AN ACCESS DOES
 
@@ -104,9 +104,9 @@ module _ (p : Point) where
   unfolding read_of doing used_at
   done_reading = nobody_after _ _ (read_of (selected_by h) c nine h) (read_from_lem c h.page h.register) refl refl
 
-  read_by : after_access nine (d_read_of c nine h) ≡ doing (reading_of (selected_by h)) p
+  read_by_lem : after_access nine (d_read_of c nine h) ≡ doing (reading_of (selected_by h)) p
   unfolding d_read_of
-  read_by = go (eqb (selected_by h).size 0) (selected_by h).readable
+  read_by_lem = go (eqb (selected_by h).size 0) (selected_by h).readable
     where
       go : (x y : Bool)
           → after_access nine (cond x (turned_away c h 5) (cond (not y) (turned_away c h 6) (read_of (selected_by h) c nine h)))
@@ -169,7 +169,7 @@ module _ (p : Point) where
   served_by (WriteC b) l = selected_by_lem b l
   served_by (WriteD b) l = write_by b
   served_by ReadC l = asked_by_lem
-  served_by ReadD l = read_by
+  served_by ReadD l = read_by_lem
 
   taken_by : (a : Asked) (source : List ℕ) → Bounded a → taken a source p.chip h ≡ doing (deed_of (selected_by h) a source) p
   unfolding taken doing deed_of

@@ -46,7 +46,7 @@ use Rattle.past.specs.Deeds.{Deed, bursts, pulses, ticks, commands, uses, resets
 use Rattle.past.specs.Deeds.{if_use, selecting, commanding, writing, deed_of, page_by, register_by, deed_after, deeds_from}
 use Rattle.past.specs.Credits.{alone, if, credit_of, sum_by}
 use Rattle.past.specs.Addresses.{credit_by, counter_by}
-use Rattle.past.specs.Reads.{Start, byte_by, place_by, copied_by, read_by_lem}
+use Rattle.past.specs.Reads.{Start, byte_by, place_by, copied_by, read_by}
 use Rattle.past.specs.Answers.{answer_by}
 use Rattle.alone.specs.Doing.{repeater_by, Proper}
 use Rattle.alone.specs.Seen.{start_of}
@@ -185,7 +185,7 @@ module _ (start : Start) (l m : ℕ) where
   byte_same past (reg.Address i) place e = refl
 
   used_same : (past : List Deed) (u : Use) → parted_use u ≡ false → answer_by (limited start l) past (uses u) ≡ answer_by (limited start m) past (uses u)
-  unfolding answer_by read_by_lem
+  unfolding answer_by read_by
   used_same past (selects_p n) e = refl
   used_same past (selects_r n) e = refl
   used_same past (allows k b) e = refl

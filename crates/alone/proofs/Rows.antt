@@ -18,7 +18,7 @@ use Rattle.host.proofs.Afresh.{turned_to_writing}
 use Rattle.access.specs.Access.{value_of, selected_by}
 use Rattle.access.proofs.Values.{value_six}
 use Rattle.himib.specs.Runs.{Point}
-use Rattle.pass.proofs.HostPast.{Row, begun, up_first, written_on, Sixes, copied_six, whole_at, bytes_at}
+use Rattle.pass.proofs.HostPast.{Row, begun, up_first, written_on, Sixes, copied_six, whole_at, bytes_at_lem}
 use Rattle.past.specs.Deeds.{Deed, bursts, pulses, ticks, commands, uses, resets, refused, selects_p, selects_r, allows, addresses, asks, reads}
 use Rattle.past.specs.Addresses.{in_a_row, completes, last_six}
 use Rattle.alone.specs.Doing.{used_at, doing, next, Proper}
@@ -75,4 +75,4 @@ module _ (past : List Deed) (h : Host) (i b : ℕ) (row : Rowed past h) (size : 
   unfolding in_a_row
   bytes_seen e =
       ap (λ (w : Writing). w.host.bytes) as_selected
-      ∙ bytes_at h (in_a_row past) b row size (sym (ap (λ (w : Writing). w.complete) as_selected) ∙ e)
+      ∙ bytes_at_lem h (in_a_row past) b row size (sym (ap (λ (w : Writing). w.complete) as_selected) ∙ e)

@@ -32,7 +32,7 @@ use Rattle.access.specs.Access.{selected_by, value_of}
 use Rattle.himib.specs.Runs.{Point}
 use Rattle.past.specs.Deeds.{Deed, bursts, pulses, ticks, commands, uses, resets, refused, selects_p, selects_r, allows, addresses, asks, reads}
 use Rattle.past.specs.Deeds.{selecting, commanding, writing, writing_to, reading_of, accessing, deed_of, page_by, register_by, deed_after}
-use Rattle.past.specs.Reads.{Start, byte_by, reads_in_a_row, remainder, place_by, back, copied_by, read_by_lem}
+use Rattle.past.specs.Reads.{Start, byte_by, reads_in_a_row, remainder, place_by, back, copied_by, read_by}
 use Rattle.alone.specs.Doing.{used_at, doing, next}
 use Rattle.alone.specs.Selected.{StandsUse, StandsOn, Sequenced}
 use Rattle.alone.proofs.Did.{role_size_lem}
@@ -194,11 +194,11 @@ module _ (start : Start) where
     byte_at n zero z m l = let e : size ≡ suc n = sym on.1 ∙ z in seen 0 (omega arith)
     byte_at n (suc j) z m l = rw (ne_eqb (suc j) 0 (λ e. omega arith), ← on.0) (s.held n j z m (suc j) l)
 
-    pub read_seen : (read_byte size v h).byte ≡ read_by_lem start past register size
-    unfolding read_byte read_by_lem copied_by place_by remainder
+    pub read_seen : (read_byte size v h).byte ≡ read_by start past register size
+    unfolding read_byte read_by copied_by place_by remainder
     read_seen = go size refl
       where
-        go : (n : ℕ) → size ≡ n → (read_byte size v h).byte ≡ read_by_lem start past register size
+        go : (n : ℕ) → size ≡ n → (read_byte size v h).byte ≡ read_by start past register size
         go zero e = absurd (omega (arith, on.2))
         go (suc n) e =
             let z : (selected_by h).size ≡ suc n = on.1 ∙ e in

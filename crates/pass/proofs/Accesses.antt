@@ -17,7 +17,7 @@ use Rattle.attributes.specs.declared.Nine.{Nine}
 use Rattle.chip.specs.declared.Core.{Core}
 use Rattle.chip.specs.Chip.{with_changes, with_enables}
 use Rattle.changes.specs.Changes.{kept_bits}
-use Rattle.access.specs.Access.{selected_by, read_by_lem, obeyed, written_by, read_of, d_read_of, d_write_of}
+use Rattle.access.specs.Access.{selected_by, read_by, obeyed, written_by, read_of, d_read_of, d_write_of}
 use Rattle.access.proofs.Cases.{read_cases, write_cases}
 use Rattle.himib.specs.Runs.{accepted}
 use Rattle.pass.specs.Pass.{is_change}
@@ -43,8 +43,8 @@ module _ (P : Core → Type 0) (c : Core) (b : ℕ) (still : P c) (sets : (g : B
 
 -- the core after a read of a register by its role, and whether that was a read of change register R
 module _ (r : ℕ) (P : Core → Bool → Type 0) (c : Core) (still : P c false) (clears : (k : ℕ) → P (with_changes c (set c.changes k 0)) (eqb k r)) where
-  after_seen : (role : Role) → P (read_by_lem role c) (is_change r role)
-  unfolding read_by_lem
+  after_seen : (role : Role) → P (read_by role c) (is_change r role)
+  unfolding read_by
   after_seen Plain = still
   after_seen (Cleared k) = clears k
   after_seen (Commands g) = still

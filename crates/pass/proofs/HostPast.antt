@@ -1,7 +1,7 @@
 -- Demand 3, the host's record by the past alone. Assumes nothing.
 --   selection_by_past      == P and R
 --   address_writes_by_past == the bytes of an address write
---   Row, written_on, whole_at, bytes_at == what the host's record holds of bytes written in a row, for the crates above
+--   Row, written_on, whole_at, bytes_at_lem == what the host's record holds of bytes written in a row, for the crates above
 use Prim.Native.Nat.{ℕ, suc, ◌+◌, ◌-◌, ◌/◌, ◌%◌, ◌≤◌, ◌<◌}
 use mathlib.Core.Path.{◌≡◌, refl, sym, ap, ◌∙◌}
 use mathlib.Core.Bool.{Bool, true, false, cond, ◌&&◌, ◌||◌, false≢true}
@@ -297,10 +297,10 @@ module _ (h : Host) (w : List ℕ) (b : ℕ) (row : Row h w) (z : (selected_by h
   unfolding wrote_byte
   whole_at = rw (z, row.place z, length-append w (b ∷ [])) (last_six_lem (length w))
 
-  pub bytes_at : (wrote_byte (selected_by h).size b h).complete ≡ true
+  pub bytes_at_lem : (wrote_byte (selected_by h).size b h).complete ≡ true
       → (wrote_byte (selected_by h).size b h).host.bytes ≡ drop (length (w ++ b ∷ []) - 6) (w ++ b ∷ [])
   unfolding wrote_byte
-  bytes_at e =
+  bytes_at_lem e =
       let f = eqb-true (length (w ++ b ∷ []) % 6) 0 (sym whole_at ∙ e) in
       let g = length-append w (b ∷ []) in
       let five : length w % 6 ≡ 5 = omega arith in
@@ -337,7 +337,7 @@ module _ (c : Core) (h : Host) (w : List ℕ) (b i : ℕ) (row : Row h w) where
           × ((t && whole) ≡ true → (wrote_byte size b h).host.bytes ≡ drop (length (w ++ b ∷ []) - 6) (w ++ b ∷ []))
       go true e =
           let z : size ≡ 6 = address_size h.page h.register i e in
-          (whole_at h w b row z, bytes_at h w b row z)
+          (whole_at h w b row z, bytes_at_lem h w b row z)
       go false e = (refl, λ z. absurd (false≢true z))
 
   sixth : Sixth (d_write_of c h b)

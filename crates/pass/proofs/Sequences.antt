@@ -172,17 +172,17 @@ module _ (source : List ℕ) (s : Chip) (h : Host) where
   unfolding read_of accepted
   gives_read = read_cases Gives s.core h (λ k e. absurd (true≢false (sym e))) s.attributes (λ e. (refl, refl))
 
-  read_by : (a : Asked) → (eqb (kind_number a) 7 && accepted (taken a source s h).answer) ≡ true
+  read_by_lem : (a : Asked) → (eqb (kind_number a) 7 && accepted (taken a source s h).answer) ≡ true
       → ((taken a source s h).host ≡ (reading_at s h).host) × (byte_of (taken a source s h).answer ≡ (reading_at s h).byte)
   unfolding taken served
-  read_by (ask.Burst b) e = absurd (true≢false (sym e))
-  read_by (ask.Quiet q) e = absurd (true≢false (sym (and_first _ _ e) ∙ quiet_is_no 7 refl q))
-  read_by (ask.Access (WriteC b)) e = absurd (true≢false (sym e))
-  read_by (ask.Access (WriteD b)) e = absurd (true≢false (sym e))
-  read_by (ask.Access ReadC) e = absurd (true≢false (sym e))
-  read_by (ask.Access ReadD) e = gives_read e
-  read_by ask.Reset e = absurd (true≢false (sym e))
-  read_by (ask.Refused k) e = absurd (true≢false (sym e))
+  read_by_lem (ask.Burst b) e = absurd (true≢false (sym e))
+  read_by_lem (ask.Quiet q) e = absurd (true≢false (sym (and_first _ _ e) ∙ quiet_is_no 7 refl q))
+  read_by_lem (ask.Access (WriteC b)) e = absurd (true≢false (sym e))
+  read_by_lem (ask.Access (WriteD b)) e = absurd (true≢false (sym e))
+  read_by_lem (ask.Access ReadC) e = absurd (true≢false (sym e))
+  read_by_lem (ask.Access ReadD) e = gives_read e
+  read_by_lem ask.Reset e = absurd (true≢false (sym e))
+  read_by_lem (ask.Refused k) e = absurd (true≢false (sym e))
 
 module _ (p : Point) (r : List ℕ) where
   abbrev disturbs : Bool
@@ -199,7 +199,7 @@ module _ (p : Point) (r : List ℕ) where
   host_read : reads (happens p r) ≡ true
       → ((happens p r).after.host ≡ (reading_at p.chip p.host).host) × (byte_of (happens p r).answer ≡ (reading_at p.chip p.host).byte)
   unfolding happening step_of
-  host_read e = read_by (record_of r).source p.chip p.host (record_of r).asked e
+  host_read e = read_by_lem (record_of r).source p.chip p.host (record_of r).asked e
 
 -- reads further on in a sequence of the register that h selects, of which v was copied
 module _ (h : Host) (v : List ℕ) where

@@ -16,7 +16,7 @@ use Rattle.past.specs.Credits.{credit_of, partition_credit, frames_at, collision
 use Rattle.past.specs.Addresses.{in_a_row, completes, address_by, same, newcomer, credit_by, counter_by}
 use Rattle.past.specs.Status.{mistimes, sqe, loopback, jabbers, rate_by, sqe_by, loopback_by, jabber_by, got_by, g_by}
 use Rattle.past.specs.Changes.{changes, clears, change_by, allowed_by, any_below, interrupt_by, error_by}
-use Rattle.past.specs.Reads.{byte_by, reads_in_a_row, remainder, place_by, copied_by, read_by_lem}
+use Rattle.past.specs.Reads.{byte_by, reads_in_a_row, remainder, place_by, copied_by, read_by}
 use Rattle.past.specs.Answers.{answer_by, answers_by, answer_to}
 
 -- sets, commands, the register map, and what a record is
@@ -45,5 +45,5 @@ noticing = 0
 
 -- all of it, with byte sequences and answers
 unfoldable pub telling : ℕ
-unfolding asking porting parting counting noticing byte_by reads_in_a_row remainder place_by copied_by read_by_lem answer_by answers_by answer_to
+unfolding asking porting parting counting noticing byte_by reads_in_a_row remainder place_by copied_by read_by answer_by answers_by answer_to
 telling = 0

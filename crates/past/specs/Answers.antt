@@ -12,7 +12,7 @@ use Rattle.past.specs.Deeds.{deed_after, deeds_from}
 use Rattle.past.specs.Bursts.{word_by, out_by}
 use Rattle.past.specs.Partition.{sent_to, heard_by}
 use Rattle.past.specs.Changes.{interrupt_by, error_by}
-use Rattle.past.specs.Reads.{Start, read_by_lem}
+use Rattle.past.specs.Reads.{Start, read_by}
 
 -- bit 7 interrupt, bit 6 interface error
 abbrev pub status_by : Start → List Deed → ℕ
@@ -24,7 +24,7 @@ used_by start past (selects_r n) = Done
 used_by start past (allows k b) = Done
 used_by start past (addresses i b) = Done
 used_by start past asks = Value (status_by start past)
-used_by start past (reads register size) = Value (read_by_lem start past register size)
+used_by start past (reads register size) = Value (read_by start past register size)
 
 unfoldable pub answer_by : Start → List Deed → Deed → Answer
 answer_by start past (bursts b source) = Sent (word_by b (heard_by past b)) (set_of (out_by (sent_to past) (heard_by past b)))

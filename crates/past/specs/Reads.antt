@@ -4,7 +4,7 @@
 --   reads_in_a_row past == the pasts before each D read since the last C write, D write or reset, the newest first
 --   place_by past size == the place of the byte that a D read gives next
 --   copied_by past size == the past before the read that made the copy: the first of the sequence
---   read_by_lem start past register size == the byte that a D read gives
+--   read_by start past register size == the byte that a D read gives
 -- Assumes nothing.
 use Rattle.std.specs.Prelude.{ℕ, zero, suc, ◌+◌, ◌/◌, ◌%◌, ◌^◌, List, [], ◌∷◌, length, get_or}
 use Rattle.ports.specs.Sets.{gather}
@@ -79,5 +79,5 @@ back row past (suc n) = get_or row n []
 unfoldable pub copied_by : List Deed → ℕ → List Deed
 copied_by past size = back (reads_in_a_row past) past (place_by past size)
 
-unfoldable pub read_by_lem : Start → List Deed → Register → ℕ → ℕ
-read_by_lem start past register size = byte_by start (copied_by past size) register (place_by past size)
+unfoldable pub read_by : Start → List Deed → Register → ℕ → ℕ
+read_by start past register size = byte_by start (copied_by past size) register (place_by past size)
