@@ -9,36 +9,28 @@
 #![tactic(auto)]
 
 use burst::Activity;
-use libc::STDOUT_FILENO;
 use management::{Command, Query, Setting};
 use ports::Quiet;
 use repeater::Repeater;
 
-fn say(text: &[u8]) {
-    io::write_all(STDOUT_FILENO, text);
+// Text that cannot be written is lost.
+fn say(rt: &impl Print, text: &str) {
+    let _ = rt.print(text);
 }
 
-fn wide(b: u8) -> u64 {
-    b as u64
+fn say_byte(rt: &impl Print, b: u8) {
+    let _ = print!(rt; "{b:02x}");
 }
 
-fn say_byte(b: u8) {
-    io::print_hex(STDOUT_FILENO, wide(b), 2);
+fn say_mask(rt: &impl Print, m: u16, digits: usize) {
+    let _ = print!(rt; "{m:0digits$x}");
 }
 
-fn wider(m: u16) -> u64 {
-    m as u64
-}
-
-fn say_mask(m: u16, digits: usize) {
-    io::print_hex(STDOUT_FILENO, wider(m), digits);
-}
-
-fn say_bit(b: bool) {
+fn say_bit(rt: &impl Print, b: bool) {
     if b {
-        say(b"1");
+        say(rt, "1");
     } else {
-        say(b"0");
+        say(rt, "0");
     }
 }
 
@@ -94,112 +86,112 @@ fn silent_links(r: Repeater) -> u16 {
     later.linked()
 }
 
-fn say_state(r: Repeater) {
-    say_mask(r.enabled(), 3);
-    say(b" ");
-    say_mask(r.linked(), 2);
-    say(b" ");
-    say_mask(silent_links(r), 2);
-    say(b" ");
-    say_mask(r.partitioned(), 3);
-    say(b" ");
-    say_bit(r.alternate_aui);
-    say_bit(r.alternate_tp);
+fn say_state(rt: &impl Print, r: Repeater) {
+    say_mask(rt, r.enabled(), 3);
+    say(rt, " ");
+    say_mask(rt, r.linked(), 2);
+    say(rt, " ");
+    say_mask(rt, silent_links(r), 2);
+    say(rt, " ");
+    say_mask(rt, r.partitioned(), 3);
+    say(rt, " ");
+    say_bit(rt, r.alternate_aui);
+    say_bit(rt, r.alternate_tp);
 }
 
-fn say_answer(r: Repeater, q: Query) {
+fn say_answer(rt: &impl Print, r: Repeater, q: Query) {
     let got = r.get(q);
-    say_byte(got.value);
+    say_byte(rt, got.value);
 }
 
-fn say_got(r: Repeater, q: Query) {
+fn say_got(rt: &impl Print, r: Repeater, q: Query) {
     let got = r.get(q);
     let left = got.repeater;
-    say(b"gives ");
-    say_byte(got.value);
-    say(b", leaves ");
-    say_answer(left, Query::Aui);
-    say(b" ");
-    say_answer(left, Query::Rates);
-    say(b" ");
-    say_answer(left, Query::Mjlp);
+    say(rt, "gives ");
+    say_byte(rt, got.value);
+    say(rt, ", leaves ");
+    say_answer(rt, left, Query::Aui);
+    say(rt, " ");
+    say_answer(rt, left, Query::Rates);
+    say(rt, " ");
+    say_answer(rt, left, Query::Mjlp);
 }
 
-fn say_port(what: &[u8], i: u8) {
-    say(what);
-    io::print_decimal(STDOUT_FILENO, wide(i));
+fn say_port(rt: &impl Print, what: &str, i: u8) {
+    say(rt, what);
+    let _ = print!(rt; "{i}");
 }
 
-fn say_setting(s: Setting) {
+fn say_setting(rt: &impl Print, s: Setting) {
     match s {
-        Setting::AlternateAui => say(b"alternate algorithm, AUI"),
-        Setting::AlternateTp => say(b"alternate algorithm, TP"),
-        Setting::DisableAui => say(b"disable AUI"),
-        Setting::EnableAui => say(b"enable AUI"),
-        Setting::DisableTp(i) => say_port(b"disable TP", i),
-        Setting::EnableTp(i) => say_port(b"enable TP", i),
-        Setting::LinkTestOff(i) => say_port(b"link test off, TP", i),
-        Setting::LinkTestOn(i) => say_port(b"link test on, TP", i),
+        Setting::AlternateAui => say(rt, "alternate algorithm, AUI"),
+        Setting::AlternateTp => say(rt, "alternate algorithm, TP"),
+        Setting::DisableAui => say(rt, "disable AUI"),
+        Setting::EnableAui => say(rt, "enable AUI"),
+        Setting::DisableTp(i) => say_port(rt, "disable TP", i),
+        Setting::EnableTp(i) => say_port(rt, "enable TP", i),
+        Setting::LinkTestOff(i) => say_port(rt, "link test off, TP", i),
+        Setting::LinkTestOn(i) => say_port(rt, "link test on, TP", i),
     }
 }
 
-fn say_query(q: Query) {
+fn say_query(rt: &impl Print, q: Query) {
     match q {
-        Query::Aui => say(b"AUI status"),
-        Query::AuiClearB => say(b"AUI status, clear B"),
-        Query::AuiClearSl => say(b"AUI status, clear S and L"),
-        Query::AuiClearBsl => say(b"AUI status, clear B, S and L"),
-        Query::Partition => say(b"partition status"),
-        Query::Rates => say(b"bit rate errors, clear them"),
-        Query::Link => say(b"link status"),
-        Query::Mjlp => say(b"MJLP, clear it"),
-        Query::Version => say(b"version"),
+        Query::Aui => say(rt, "AUI status"),
+        Query::AuiClearB => say(rt, "AUI status, clear B"),
+        Query::AuiClearSl => say(rt, "AUI status, clear S and L"),
+        Query::AuiClearBsl => say(rt, "AUI status, clear B, S and L"),
+        Query::Partition => say(rt, "partition status"),
+        Query::Rates => say(rt, "bit rate errors, clear them"),
+        Query::Link => say(rt, "link status"),
+        Query::Mjlp => say(rt, "MJLP, clear it"),
+        Query::Version => say(rt, "version"),
     }
 }
 
-fn set_line(s: Setting, one: Repeater, two: Repeater) {
-    say(b" set ");
-    say_setting(s);
-    say(b": ");
-    say_state(one.set(s));
-    say(b"; ");
-    say_state(two.set(s));
-    say(b"\n");
+fn set_line(rt: &impl Print, s: Setting, one: Repeater, two: Repeater) {
+    say(rt, " set ");
+    say_setting(rt, s);
+    say(rt, ": ");
+    say_state(rt, one.set(s));
+    say(rt, "; ");
+    say_state(rt, two.set(s));
+    say(rt, "\n");
 }
 
-fn get_line(q: Query, one: Repeater, two: Repeater) {
-    say(b" get ");
-    say_query(q);
-    say(b": ");
-    say_got(one, q);
-    say(b"; ");
-    say_got(two, q);
-    say(b"\n");
+fn get_line(rt: &impl Print, q: Query, one: Repeater, two: Repeater) {
+    say(rt, " get ");
+    say_query(rt, q);
+    say(rt, ": ");
+    say_got(rt, one, q);
+    say(rt, "; ");
+    say_got(rt, two, q);
+    say(rt, "\n");
 }
 
-fn line(b: u8, one: Repeater, two: Repeater) {
-    say_byte(b);
+fn line(rt: &impl Print, b: u8, one: Repeater, two: Repeater) {
+    say_byte(rt, b);
     let command = management::decode(b);
     match command {
-        Command::Set(s) => set_line(s, one, two),
-        Command::Get(q) => get_line(q, one, two),
-        Command::Unlisted => say(b" not listed\n"),
+        Command::Set(s) => set_line(rt, s, one, two),
+        Command::Get(q) => get_line(rt, q, one, two),
+        Command::Unlisted => say(rt, " not listed\n"),
     }
 }
 
-fn say_lines(one: Repeater, two: Repeater) {
+fn say_lines(rt: &impl Print, one: Repeater, two: Repeater) {
     for b in 0..=255u8 {
-        line(b, one, two);
+        line(rt, b, one, two);
     }
 }
 
-fn main() {
+fn main(rt: HostRuntime) {
     let one = first_state();
     let two = one.set(Setting::DisableAui);
-    say(b"first state: ");
-    say_state(one);
-    say(b"\nsecond state, AUI disabled: ");
-    say_state(two);
-    say(b"\n");
-    say_lines(one, two);
+    say(&rt, "first state: ");
+    say_state(&rt, one);
+    say(&rt, "\nsecond state, AUI disabled: ");
+    say_state(&rt, two);
+    say(&rt, "\n");
+    say_lines(&rt, one, two);
 }

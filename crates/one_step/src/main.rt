@@ -9,7 +9,6 @@ use answer::Answer;
 use attributes::Flat;
 use chip::{Choices, FlatChip, FlatSupply, Kept};
 use host::Host;
-use libc::STDOUT_FILENO;
 use record::Record;
 
 // A chip and the host's record.
@@ -19,11 +18,11 @@ struct State {
     host: Host,
 }
 
-// Writes the line of a record; the buffer is lent for it.
-fn say(number: u64, answer: Answer, line: &mut [u8]) {
+// Writes the line of a record; the buffer is lent for it. A line that cannot be written is lost.
+fn say(rt: &impl Print, number: u64, answer: Answer, line: &mut [u8]) {
     let n = answer::put_line(line, 0, number, answer);
     if n <= line.len() {
-        io::write_all(STDOUT_FILENO, &line[0..n]);
+        let _ = rt.write_all(&line[0..n]);
     }
 }
 
@@ -47,7 +46,7 @@ fn power_up() -> State {
 }
 
 // After four link pulses, the records 1 to 4.
-fn pulsed(state: State, pulse: &[u8], line: &mut [u8]) -> State {
+fn pulsed(rt: &impl Print, state: State, pulse: &[u8], line: &mut [u8]) -> State {
     let mut s = state;
     for number in 1..5u64 {
         let chip = s.chip;
@@ -56,7 +55,7 @@ fn pulsed(state: State, pulse: &[u8], line: &mut [u8]) -> State {
         let after = stepped.chip;
         let left = stepped.host;
         let answer = stepped.answer;
-        say(number, answer, line);
+        say(rt, number, answer, line);
         s = State {
             chip: after,
             host: left,
@@ -66,15 +65,15 @@ fn pulsed(state: State, pulse: &[u8], line: &mut [u8]) -> State {
 }
 
 // The burst, record 5.
-fn bursted(state: State, burst: &[u8], line: &mut [u8]) {
+fn bursted(rt: &impl Print, state: State, burst: &[u8], line: &mut [u8]) {
     let chip = state.chip;
     let host = state.host;
     let stepped = himib::step(chip, host, burst);
     let answer = stepped.answer;
-    say(5, answer, line);
+    say(rt, 5, answer, line);
 }
 
-fn main() {
+fn main(rt: HostRuntime) {
     let mut line = [0u8; 32];
     let mut pulse = [0u8; 32];
     pulse[0] = Record::PULSE;
@@ -85,6 +84,6 @@ fn main() {
     burst[4] = 0xE8;
     burst[5] = 3;
     burst[8] = 64;
-    let linked = pulsed(power_up(), &pulse, &mut line);
-    bursted(linked, &burst, &mut line);
+    let linked = pulsed(&rt, power_up(), &pulse, &mut line);
+    bursted(&rt, linked, &burst, &mut line);
 }

@@ -8,6 +8,11 @@ ghost use Rattle.run.specs.Kept.{buffer_length, Kept};
 
 use chip::FlatChip;
 use host::Host;
+use std::env::FillError;
+use std::fs::File;
+use std::io;
+use std::io::{Read, Write};
+use std::rt::{Env, Files};
 
 // Where the run stands: the chip, the host's record and the next record's number.
 #[derive(Clone, Copy)]
@@ -43,18 +48,18 @@ fn shift(buf: &mut [u8], at: usize, n: usize)
     }
 }
 
-// Reads once behind the bytes that are kept, which stay, and tells how many there are then.
-fn fill(buf: &mut [u8], have: usize) -> usize
+// Reads once behind the bytes that are kept, which stay, and tells how many there are then. A read that fails ends the input.
+fn fill(input: &mut impl Read, buf: &mut [u8], have: usize) -> usize
     requires { have ≤ length buf.old }
     ensures { (have ≤ result) × (result ≤ length buf.new) × (take have buf.new ≡ take have buf.old) }
 {
     let rest = &mut buf[have..];
-    let got = libc::read(0, rest);
-    have + io::count(got, rest)
+    let got = input.read(rest).unwrap_or(0);
+    have + got
 }
 
 // The last piece, where there is one that is not whole: it is a record too.
-fn finish(number: u64, piece: &[u8], out: &mut [u8])
+fn finish(output: &mut impl Write, number: u64, piece: &[u8], out: &mut [u8])
     requires { length out.old ≡ buffer_length }
 {
     if piece.len() == 0 {
@@ -62,7 +67,7 @@ fn finish(number: u64, piece: &[u8], out: &mut [u8])
     }
     let n = block::answer_piece(number, piece, out);
     if n <= out.len() {
-        io::write_all(1, &out[0..n]);
+        let _ = output.write_all(&out[0..n]);
     }
 }
 
@@ -109,15 +114,22 @@ fn work(state: State, total: usize, buf: &mut [u8], out: &mut [u8]) -> Done
 }
 
 // One reading, its answers and one writing. The end of the input ends it, and so does an output that is closed.
-fn one_turn(state: State, have: usize, buf: &mut [u8], out: &mut [u8]) -> Turn
+fn one_turn(
+    input: &mut impl Read,
+    output: &mut impl Write,
+    state: State,
+    have: usize,
+    buf: &mut [u8],
+    out: &mut [u8],
+) -> Turn
     requires have_lt_record_length { have < record_length }
     requires buf_len { length buf.old ≡ buffer_length }
     requires out_len { length out.old ≡ buffer_length }
     ensures { result.have < record_length }
 {
-    let total = fill(buf, have);
+    let total = fill(input, buf, have);
     if total == have {
-        finish(state.number, &buf[0..have], out);
+        finish(output, state.number, &buf[0..have], out);
         return Turn {
             state: state,
             have: 0,
@@ -127,7 +139,7 @@ fn one_turn(state: State, have: usize, buf: &mut [u8], out: &mut [u8]) -> Turn
     let done = work(state, total, buf, out);
     let next = done.state;
     let used = done.used;
-    let going = io::write_all(1, &out[0..used]);
+    let going = output.write_all(&out[0..used]).is_ok();
     Turn {
         state: next,
         have: done.left,
@@ -136,7 +148,13 @@ fn one_turn(state: State, have: usize, buf: &mut [u8], out: &mut [u8]) -> Turn
 }
 
 // A proved loop has to end, so the readings are counted down from a number that no run uses up.
-fn pump(state: State, buf: &mut [u8], out: &mut [u8])
+fn pump(
+    input: &mut impl Read,
+    output: &mut impl Write,
+    state: State,
+    buf: &mut [u8],
+    out: &mut [u8],
+)
     requires buf_len { length buf.old ≡ buffer_length }
     requires out_len { length out.old ≡ buffer_length }
 {
@@ -145,7 +163,7 @@ fn pump(state: State, buf: &mut [u8], out: &mut [u8])
     let mut have: usize = 0;
     let mut going = true;
     while turns > 0 && going {
-        let t = one_turn(s, have, buf, out);
+        let t = one_turn(input, output, s, have, buf, out);
         let next = t.state;
         s = next;
         have = t.have;
@@ -155,11 +173,15 @@ fn pump(state: State, buf: &mut [u8], out: &mut [u8])
 }
 
 // Runs from a chip at power-up.
-fn run_from(chip: FlatChip) {
-    let mut buf = io::large_buffer();
-    let mut out = io::large_buffer();
+fn run_from(rt: &HostRuntime, chip: FlatChip) {
+    let mut input = rt.stdin();
+    let mut output = rt.stdout();
+    let mut buf = [0u8; 65536];
+    let mut out = [0u8; 65536];
     let record = Host::power_up();
     pump(
+        &mut input,
+        &mut output,
         State {
             chip: chip,
             host: record,
@@ -170,53 +192,96 @@ fn run_from(chip: FlatChip) {
     );
 }
 
-fn wide(n: u32) -> u64 {
-    n as u64
+// A limit that power-up turns away.
+fn tell_limit(rt: &impl Eprint, limit: u32) {
+    let _ = eprintln!(rt; "run: short event limit {limit} is outside 75 to 81 (refused 13)");
 }
 
-// A limit that power-up turns away.
-fn tell_limit(limit: u32) {
-    io::write_all(2, b"run: short event limit ");
-    io::print_decimal(2, wide(limit));
-    io::write_all(2, b" is outside 75 to 81 (refused 13)\n");
+// Reads until the buffer is full, the input ends or a read fails, and tells how many bytes came.
+fn read_full(input: &mut impl Read, buf: &mut [u8]) -> usize
+    ensures { result ≤ length buf.new }
+{
+    let mut done = 0;
+    while done < buf.len() {
+        let got = input.read(&mut buf[done..]).unwrap_or(0);
+        if got == 0 {
+            break;
+        }
+        done += got;
+    }
+    done
+}
+
+// Opens a file for reading. Its name must be text.
+fn open<R: Files>(rt: &R, name: &[u8]) -> io::Result<R::File> {
+    match str::from_utf8(name) {
+        Ok(text) => File::open(rt, text),
+        Err(_) => Err(io::Error::from(io::ErrorKind::InvalidFilename)),
+    }
+}
+
+// The words of an error, without the number that the system has for it.
+fn reason(words: &str) -> &str {
+    match words.split_once(" (os error ") {
+        Some((reason, _)) => reason,
+        None => words,
+    }
+}
+
+// A line on standard error: what failed, and why.
+fn fail(rt: &(impl Eprint + Alloc), what: &str, error: io::Error) {
+    let Ok(words) = format!(in rt.alloc(); "{error}") else {
+        let _ = eprintln!(rt; "{what}");
+        return;
+    };
+    let reason = reason(words.as_str());
+    let _ = eprintln!(rt; "{what}: {reason}");
 }
 
 // Runs with the counters, addresses and choices of the start file that the first argument names.
-fn run_with() {
-    let mut path = io::buffer();
-    let n = os::arg(1, &mut path);
-    let fd = os::open_read(&path[..n]);
-    if fd < 0 {
-        os::fail(b"run: the start file cannot be opened");
-        return;
-    }
-    let mut bytes = io::buffer();
-    let got = io::read_full(fd, &mut bytes);
+fn run_with(rt: &HostRuntime) {
+    let mut path = [0u8; 4096];
+    let n = rt.arg(1, &mut path).unwrap_or(0);
+    let mut file = match open(rt, &path[..n]) {
+        Ok(file) => file,
+        Err(error) => {
+            fail(rt, "run: the start file cannot be opened", error);
+            return;
+        }
+    };
+    let mut bytes = [0u8; 4096];
+    let got = read_full(&mut file, &mut bytes);
     let started = start::start_chip(&bytes[..got]);
     if started.fits {
         if started.number == 0 {
-            run_from(started.chip);
+            run_from(rt, started.chip);
             return;
         }
-        tell_limit(started.limit);
+        tell_limit(rt, started.limit);
         return;
     }
-    io::write_all(
-        2,
-        b"run: the start file does not have 530 bytes, or 535 with a 0 at the end\n",
+    let _ = eprintln!(rt;
+        "run: the start file does not have 530 bytes, or 535 with a 0 at the end"
     );
 }
 
-fn main() {
-    let words = os::arg_count();
-    if words < 2 {
+// Whether the program was given an argument i.
+fn has_argument(rt: &impl Env, i: usize) -> bool {
+    match rt.arg(i, &mut []) {
+        Err(FillError::NotPresent) => false,
+        _ => true,
+    }
+}
+
+fn main(rt: HostRuntime) {
+    if !has_argument(&rt, 1) {
         let started = start::start_chip(&[]);
-        run_from(started.chip);
+        run_from(&rt, started.chip);
         return;
     }
-    if words == 2 {
-        run_with();
+    if !has_argument(&rt, 2) {
+        run_with(&rt);
         return;
     }
-    io::write_all(2, b"run: at most one argument, the name of a start file\n");
+    let _ = eprintln!(rt; "run: at most one argument, the name of a start file");
 }

@@ -9,6 +9,11 @@ ghost use Rattle.tell.specs.Taken.{input_length, output_length, Taken};
 use chip::FlatChip;
 use host::Host;
 use record::Record;
+use std::env::FillError;
+use std::fs::File;
+use std::io;
+use std::io::{Read, Write};
+use std::rt::{Env, Files};
 
 // Where the run stands: the chip, the host's record and the next record's number.
 #[derive(Clone, Copy)]
@@ -80,28 +85,50 @@ fn take_all(state: State, total: usize, buf: &[u8], out: &mut [u8]) -> Done
     }
 }
 
-// Reads once, and a record that is cut to its end. A piece that is not whole is then the last of the input.
-fn fill(buf: &mut [u8]) -> usize
+// Reads until the buffer is full, the input ends or a read fails, and tells how many bytes came.
+fn read_full(input: &mut impl Read, buf: &mut [u8]) -> usize
+    ensures { result ≤ length buf.new }
+{
+    let mut done = 0;
+    while done < buf.len() {
+        let got = input.read(&mut buf[done..]).unwrap_or(0);
+        if got == 0 {
+            break;
+        }
+        done += got;
+    }
+    done
+}
+
+// Reads once, and a record that is cut to its end. A piece that is not whole is then the last of the input. A read that fails ends
+// the input.
+fn fill(input: &mut impl Read, buf: &mut [u8]) -> usize
     requires { length buf.old ≡ input_length }
     ensures { result ≤ length buf.new }
 {
-    let got = io::count(libc::read(0, buf), buf);
+    let got = input.read(buf).unwrap_or(0);
     let cut = got % Record::LENGTH;
     if cut == 0 {
         return got;
     }
     let end = got + (Record::LENGTH - cut);
     let rest = &mut buf[got..end];
-    let more = io::read_full(0, rest);
+    let more = read_full(input, rest);
     got + more
 }
 
 // One reading, its lines and one writing. The end of the input ends the run, and so does an output that is closed.
-fn one_turn(state: State, buf: &mut [u8], out: &mut [u8]) -> Turn
+fn one_turn(
+    input: &mut impl Read,
+    output: &mut impl Write,
+    state: State,
+    buf: &mut [u8],
+    out: &mut [u8],
+) -> Turn
     requires buf_len { length buf.old ≡ input_length }
     requires out_len { length out.old ≡ output_length }
 {
-    let total = fill(buf);
+    let total = fill(input, buf);
     if total == 0 {
         return Turn {
             state: state,
@@ -111,7 +138,7 @@ fn one_turn(state: State, buf: &mut [u8], out: &mut [u8]) -> Turn
     let done = take_all(state, total, buf, out);
     let next = done.state;
     let used = done.used;
-    let written = io::write_all(1, &out[0..used]);
+    let written = output.write_all(&out[0..used]).is_ok();
     Turn {
         state: next,
         going: written & (total % Record::LENGTH == 0),
@@ -119,7 +146,13 @@ fn one_turn(state: State, buf: &mut [u8], out: &mut [u8]) -> Turn
 }
 
 // A proved loop has to end, so the readings are counted down from a number that no run uses up.
-fn pump(state: State, buf: &mut [u8], out: &mut [u8])
+fn pump(
+    input: &mut impl Read,
+    output: &mut impl Write,
+    state: State,
+    buf: &mut [u8],
+    out: &mut [u8],
+)
     requires buf_len { length buf.old ≡ input_length }
     requires out_len { length out.old ≡ output_length }
 {
@@ -127,7 +160,7 @@ fn pump(state: State, buf: &mut [u8], out: &mut [u8])
     let mut s = state;
     let mut going = true;
     while turns > 0 && going {
-        let t = one_turn(s, buf, out);
+        let t = one_turn(input, output, s, buf, out);
         let next = t.state;
         s = next;
         going = t.going;
@@ -136,11 +169,15 @@ fn pump(state: State, buf: &mut [u8], out: &mut [u8])
 }
 
 // Runs from a chip at power-up.
-fn run_from(chip: FlatChip) {
-    let mut buf = io::buffer();
-    let mut out = io::large_buffer();
+fn run_from(rt: &HostRuntime, chip: FlatChip) {
+    let mut input = rt.stdin();
+    let mut output = rt.stdout();
+    let mut buf = [0u8; 4096];
+    let mut out = [0u8; 65536];
     let record = Host::power_up();
     pump(
+        &mut input,
+        &mut output,
         State {
             chip: chip,
             host: record,
@@ -151,53 +188,81 @@ fn run_from(chip: FlatChip) {
     );
 }
 
-fn wide(n: u32) -> u64 {
-    n as u64
+// A limit that power-up turns away.
+fn tell_limit(rt: &impl Eprint, limit: u32) {
+    let _ = eprintln!(rt; "tell: short event limit {limit} is outside 75 to 81 (refused 13)");
 }
 
-// A limit that power-up turns away.
-fn tell_limit(limit: u32) {
-    io::write_all(2, b"tell: short event limit ");
-    io::print_decimal(2, wide(limit));
-    io::write_all(2, b" is outside 75 to 81 (refused 13)\n");
+// Opens a file for reading. Its name must be text.
+fn open<R: Files>(rt: &R, name: &[u8]) -> io::Result<R::File> {
+    match str::from_utf8(name) {
+        Ok(text) => File::open(rt, text),
+        Err(_) => Err(io::Error::from(io::ErrorKind::InvalidFilename)),
+    }
+}
+
+// The words of an error, without the number that the system has for it.
+fn reason(words: &str) -> &str {
+    match words.split_once(" (os error ") {
+        Some((reason, _)) => reason,
+        None => words,
+    }
+}
+
+// A line on standard error: what failed, and why.
+fn fail(rt: &(impl Eprint + Alloc), what: &str, error: io::Error) {
+    let Ok(words) = format!(in rt.alloc(); "{error}") else {
+        let _ = eprintln!(rt; "{what}");
+        return;
+    };
+    let reason = reason(words.as_str());
+    let _ = eprintln!(rt; "{what}: {reason}");
 }
 
 // Runs with the counters, addresses and choices of the start file that the first argument names.
-fn run_with() {
-    let mut path = io::buffer();
-    let n = os::arg(1, &mut path);
-    let fd = os::open_read(&path[..n]);
-    if fd < 0 {
-        os::fail(b"tell: the start file cannot be opened");
-        return;
-    }
-    let mut bytes = io::buffer();
-    let got = io::read_full(fd, &mut bytes);
+fn run_with(rt: &HostRuntime) {
+    let mut path = [0u8; 4096];
+    let n = rt.arg(1, &mut path).unwrap_or(0);
+    let mut file = match open(rt, &path[..n]) {
+        Ok(file) => file,
+        Err(error) => {
+            fail(rt, "tell: the start file cannot be opened", error);
+            return;
+        }
+    };
+    let mut bytes = [0u8; 4096];
+    let got = read_full(&mut file, &mut bytes);
     let started = start::start_chip(&bytes[..got]);
     if started.fits {
         if started.number == 0 {
-            run_from(started.chip);
+            run_from(rt, started.chip);
             return;
         }
-        tell_limit(started.limit);
+        tell_limit(rt, started.limit);
         return;
     }
-    io::write_all(
-        2,
-        b"tell: the start file does not have 530 bytes, or 535 with a 0 at the end\n",
+    let _ = eprintln!(rt;
+        "tell: the start file does not have 530 bytes, or 535 with a 0 at the end"
     );
 }
 
-fn main() {
-    let words = os::arg_count();
-    if words < 2 {
+// Whether the program was given an argument i.
+fn has_argument(rt: &impl Env, i: usize) -> bool {
+    match rt.arg(i, &mut []) {
+        Err(FillError::NotPresent) => false,
+        _ => true,
+    }
+}
+
+fn main(rt: HostRuntime) {
+    if !has_argument(&rt, 1) {
         let started = start::start_chip(&[]);
-        run_from(started.chip);
+        run_from(&rt, started.chip);
         return;
     }
-    if words == 2 {
-        run_with();
+    if !has_argument(&rt, 2) {
+        run_with(&rt);
         return;
     }
-    io::write_all(2, b"tell: at most one argument, the name of a start file\n");
+    let _ = eprintln!(rt; "tell: at most one argument, the name of a start file");
 }

@@ -6,12 +6,14 @@
 // Where the input ends within a reading, or where the sum does not fit in 64 bits, that is told on standard error, and no sum is printed.
 #![tactic(auto)]
 
-ghost use Rattle.std.specs.Prelude.{◌≡◌};
+ghost use Rattle.std.specs.Prelude.{◌≡◌, ◌≤◌, length};
 ghost use Rattle.totals.specs.Taken.{taken_on, outcome_of};
 
 use attributes::octets::Total;
 use chain::Chain;
-use libc::{STDERR_FILENO, STDIN_FILENO, STDOUT_FILENO};
+use std::env::FillError;
+use std::io::Read;
+use std::rt::Env;
 
 // What the readings so far come to, and how many bytes of the last stretch of input stand behind its last whole reading.
 #[derive(Clone, Copy)]
@@ -63,9 +65,24 @@ fn outcome_of(state: Taken) -> Outcome
     }
 }
 
+// Reads until the buffer is full, the input ends or a read fails, and tells how many bytes came.
+fn read_full(input: &mut impl Read, buf: &mut [u8]) -> usize
+    ensures { result ≤ length buf.new }
+{
+    let mut done = 0;
+    while done < buf.len() {
+        let got = input.read(&mut buf[done..]).unwrap_or(0);
+        if got == 0 {
+            break;
+        }
+        done += got;
+    }
+    done
+}
+
 // One stretch of input and its readings. One that does not fill the buffer is the last, so no other ends in a piece of a reading.
-fn one_turn(state: Taken, buf: &mut [u8]) -> Turn {
-    let n = io::read_full(STDIN_FILENO, buf);
+fn one_turn(input: &mut impl Read, state: Taken, buf: &mut [u8]) -> Turn {
+    let n = read_full(input, buf);
     let next = take_more(state, &buf[..n]);
     Turn {
         state: next,
@@ -74,12 +91,12 @@ fn one_turn(state: Taken, buf: &mut [u8]) -> Turn {
 }
 
 // A proved loop has to end, so the stretches are counted down from a number that no run uses up.
-fn pump(state: Taken, buf: &mut [u8]) -> Taken {
+fn pump(input: &mut impl Read, state: Taken, buf: &mut [u8]) -> Taken {
     let mut turns = u64::MAX;
     let mut s = state;
     let mut going = true;
     while turns > 0 && going {
-        let t = one_turn(s, buf);
+        let t = one_turn(input, s, buf);
         let next = t.state;
         s = next;
         going = t.going;
@@ -88,53 +105,62 @@ fn pump(state: Taken, buf: &mut [u8]) -> Taken {
     s
 }
 
-fn wide(n: usize) -> u64 {
-    n as u64
-}
-
-fn complain(text: &[u8]) {
-    io::write_all(STDERR_FILENO, text);
+fn complain(rt: &impl Eprint, text: &str) {
+    let _ = rt.eprint(text);
 }
 
 // How many bytes stand behind the last whole reading.
-fn tell_left(n: usize) {
+fn tell_left(rt: &impl Eprint, n: usize) {
     if n == 1 {
-        complain(b"totals: behind the last whole reading is 1 byte more\n");
+        complain(rt, "totals: behind the last whole reading is 1 byte more\n");
         return;
     }
-    complain(b"totals: behind the last whole reading are ");
-    io::print_decimal(STDERR_FILENO, wide(n));
-    complain(b" bytes more\n");
+    let _ = eprintln!(rt; "totals: behind the last whole reading are {n} bytes more");
 }
 
-fn say_number(n: u64) {
-    io::print_decimal(STDOUT_FILENO, n);
-    io::write_all(STDOUT_FILENO, b"\n");
+fn say_number(rt: &impl Print, n: u64) {
+    let _ = println!(rt; "{n}");
 }
 
-fn tell(outcome: Outcome) {
+fn tell(rt: &(impl Print + Eprint), outcome: Outcome) {
     match outcome {
-        Outcome::Left(n) => tell_left(n),
+        Outcome::Left(n) => tell_left(rt, n),
         Outcome::NoFit => {
-            complain(b"totals: the sum reaches 2^64 and does not fit in 64 bits\n")
+            complain(
+                rt,
+                "totals: the sum reaches 2^64 and does not fit in 64 bits\n",
+            )
         }
-        Outcome::Number(n) => say_number(n),
+        Outcome::Number(n) => say_number(rt, n),
     }
 }
 
-fn main() {
-    if 1 < os::arg_count() {
-        complain(b"totals: expected no argument, the readings come on standard input\n");
+// Whether the program was given an argument i.
+fn has_argument(rt: &impl Env, i: usize) -> bool {
+    match rt.arg(i, &mut []) {
+        Err(FillError::NotPresent) => false,
+        _ => true,
+    }
+}
+
+fn main(rt: HostRuntime) {
+    if has_argument(&rt, 1) {
+        complain(
+            &rt,
+            "totals: expected no argument, the readings come on standard input\n",
+        );
         return;
     }
-    let mut buf = io::large_buffer();
+    let mut input = rt.stdin();
+    let mut buf = [0u8; 65536];
     let none = Chain::none();
     let done = pump(
+        &mut input,
         Taken {
             chain: none,
             rest: 0,
         },
         &mut buf,
     );
-    tell(outcome_of(done));
+    tell(&rt, outcome_of(done));
 }
