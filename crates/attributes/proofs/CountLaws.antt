@@ -4,7 +4,7 @@
 --   then                                         == one after the other adds up
 --   tallied                                      == the eight of `count` add up to what is due
 --   credited, credit_made                        == and with the address they are the credits of a burst
-use Rattle.std.proofs.Common.{◌≡◌, ℕ, zero, suc, ◌+◌, ◌-◌, ◌%◌, ◌^◌, ◌<◌, ◌≤◌, Bool, true, false, cond, ◌&&◌, ◌||◌, eqb, ltb, List, [], length, get_or, set, sym, refl, ap, ◌∙◌, ap₂, arith, length-set, ltb-false, ltb-true, le-ltb, lt-ltb, eq-eqb, ne_eqb, eqb-true}
+use Rattle.std.proofs.Common.{◌≡◌, ℕ, zero, suc, ◌+◌, ◌%◌, ◌^◌, ◌<◌, ◌≤◌, Bool, true, false, cond, ◌&&◌, ◌||◌, eqb, ltb, List, [], length, get_or, set, sym, refl, ap, ◌∙◌, ap₂, arith, length-set, ltb-false, ltb-true, le-ltb, lt-ltb, eq-eqb, ne_eqb, eqb-true}
 use mathlib.Core.Bool.{and-true, and-false}
 use borrow.Author.Tests.{eqb-false}
 use lib.Bits.{bit_and, bit_or}

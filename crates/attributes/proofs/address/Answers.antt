@@ -1,4 +1,4 @@
-use Rattle.std.proofs.Common.{[], sym, rules}
+use Rattle.std.proofs.Common.{[], sym}
 use Rattle.attributes.proofs.FlatLaws.{address_read, address_past}
 use Rattle.attributes.proofs.address.Goals as goal
 

@@ -1,4 +1,4 @@
-use Rattle.std.proofs.Common.{sym, rules}
+use Rattle.std.proofs.Common.{sym}
 use Rattle.attributes.proofs.FlatLaws.{stretch_whole, stretch_short, stretch_past, stretch_none}
 use Rattle.attributes.proofs.attribute.Goals as goal
 

@@ -2,7 +2,7 @@ use Rattle.ports.specs.Sets.{port_count}
 use Rattle.std.proofs.Common.{ℕ, ◌≡◌, ◌-◌, ◌<◌, arith, rules}
 use lib.Bits.{bit_and, and_le_r}
 use Rattle.ports.proofs.Places.{First, first_is, first_low}
-use Rattle.attributes.proofs.CountLaws.{Bumping, bump_all, bump_more, bump_none}
+use Rattle.attributes.proofs.CountLaws.{bump_all, bump_more, bump_none}
 use lib.Count.{count_trailing_zeros}
 use Rattle.attributes.proofs.bump.Goals as goal
 

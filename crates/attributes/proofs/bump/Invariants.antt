@@ -1,8 +1,4 @@
-use Rattle.ports.specs.Sets.{port_count}
-use Rattle.std.proofs.Common.{◌-◌, ◌<◌, arith, rules}
-use lib.Bits.{bit_and, and_le_r}
-use Rattle.ports.proofs.Places.{First, first_is, first_low}
-use Rattle.attributes.proofs.CountLaws.{Bumping, bump_all, bump_more, bump_none}
+use Rattle.attributes.proofs.CountLaws.{Bumping}
 use Rattle.attributes.proofs.bump.Given as goal
 
 abbrev pub invariant-loop-m : goal.invariant-loop-m

@@ -1,4 +1,4 @@
-use Rattle.std.proofs.Common.{sym, ◌∙◌, rules}
+use Rattle.std.proofs.Common.{sym, ◌∙◌}
 use Rattle.attributes.specs.Credits.{changed_by}
 use Rattle.attributes.proofs.changed.Goals as goal
 

@@ -1,4 +1,4 @@
-use Rattle.std.proofs.Common.{ℕ, refl, ap, rules}
+use Rattle.std.proofs.Common.{ℕ, refl, ap}
 use lib.Bits.{bit_and, bit_or}
 use Rattle.attributes.specs.Counts.{counted_for}
 use Rattle.attributes.proofs.CountLaws.{class_low, Masks, tallied, then, counting_as}

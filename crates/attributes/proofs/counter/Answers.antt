@@ -1,4 +1,4 @@
-use Rattle.std.proofs.Common.{ℕ, [], get_or, sym, ap, ◌∙◌, rules}
+use Rattle.std.proofs.Common.{ℕ, [], get_or, sym, ap, ◌∙◌}
 use Rattle.attributes.proofs.FlatLaws.{counter_held, counter_past, counter_beyond}
 use Rattle.attributes.proofs.counter.Goals as goal
 

@@ -1,5 +1,4 @@
 use Rattle.attributes.proofs.CountLaws.{class_due, credit_made}
-use Rattle.std.proofs.Common.{rules}
 use Rattle.attributes.proofs.credit.Goals as goal
 
 pub count-requires : goal.count-requires

@@ -1,5 +1,4 @@
 use Rattle.attributes.specs.Credits.{due_of}
-use Rattle.std.proofs.Common.{rules}
 use Rattle.attributes.proofs.due_of.Goals as goal
 
 pub returns : goal.returns

@@ -1,4 +1,4 @@
-use Rattle.std.proofs.Common.{sym, ◌∙◌, rules, eq-eqb, ne_eqb}
+use Rattle.std.proofs.Common.{sym, ◌∙◌, eq-eqb, ne_eqb}
 use Rattle.ports.proofs.Sets.{has_or}
 use Rattle.attributes.specs.Counts.{framed_port}
 use Rattle.attributes.proofs.framed_port.Goals as goal

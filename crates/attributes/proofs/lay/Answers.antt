@@ -1,6 +1,5 @@
-use Rattle.std.proofs.Common.{◌-◌, ◌≤◌, arith, rules}
-use Rattle.attributes.specs.Nine.{counter_count}
-use Rattle.attributes.proofs.CountLaws.{Lays, laid_none, laid_more, laid_all_lem}
+use Rattle.std.proofs.Common.{arith, rules}
+use Rattle.attributes.proofs.CountLaws.{laid_none, laid_more, laid_all_lem}
 use borrow.Author.Rules.{rules}
 use Rattle.attributes.proofs.lay.Goals as goal
 

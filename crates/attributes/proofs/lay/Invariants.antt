@@ -1,7 +1,6 @@
-use Rattle.std.proofs.Common.{◌-◌, ◌≤◌, arith, rules}
+use Rattle.std.proofs.Common.{◌-◌, ◌≤◌}
 use Rattle.attributes.specs.Nine.{counter_count}
-use Rattle.attributes.proofs.CountLaws.{Lays, laid_none, laid_more, laid_all_lem}
-use borrow.Author.Rules.{rules}
+use Rattle.attributes.proofs.CountLaws.{Lays}
 use Rattle.attributes.proofs.lay.Given as goal
 
 abbrev pub invariant-loop-r : goal.invariant-loop-r

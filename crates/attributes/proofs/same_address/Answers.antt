@@ -1,4 +1,4 @@
-use Rattle.std.proofs.Common.{refl, rules}
+use Rattle.std.proofs.Common.{refl}
 use Rattle.attributes.specs.Credits.{same_address}
 use Rattle.attributes.proofs.same_address.Goals as goal
 

@@ -1,5 +1,5 @@
-use Rattle.std.proofs.Common.{◌-◌, ◌≤◌, arith, rules}
-use Rattle.attributes.proofs.CountLaws.{Wrote, wrote_none, wrote_more, wrote_all}
+use Rattle.std.proofs.Common.{arith, rules}
+use Rattle.attributes.proofs.CountLaws.{wrote_none, wrote_more, wrote_all}
 use borrow.Author.Rules.{rules}
 use Rattle.attributes.proofs.write_address.Goals as goal
 

@@ -1,6 +1,5 @@
-use Rattle.std.proofs.Common.{◌-◌, ◌≤◌, arith, rules}
-use Rattle.attributes.proofs.CountLaws.{Wrote, wrote_none, wrote_more, wrote_all}
-use borrow.Author.Rules.{rules}
+use Rattle.std.proofs.Common.{◌-◌, ◌≤◌}
+use Rattle.attributes.proofs.CountLaws.{Wrote}
 use Rattle.attributes.proofs.write_address.Given as goal
 
 abbrev pub invariant-loop-j : goal.invariant-loop-j

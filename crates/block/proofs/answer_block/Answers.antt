@@ -4,7 +4,6 @@ use Rattle.record.specs.Record.{record_length}
 use Rattle.record.specs.Refusals.{record_of}
 use Rattle.answer.specs.Put.{room}
 use Rattle.himib.specs.Runs.{Point}
-use Rattle.attributes.specs.Flat.{Fit}
 use Rattle.himib.proofs.FlatLaws.{addressed_any}
 use Rattle.block.specs.Block.{Work}
 use Rattle.block.specs.Turns.{Stands, Reading}

@@ -1,4 +1,4 @@
-use Rattle.std.proofs.Common.{refl, ap, ◌∙◌, rules}
+use Rattle.std.proofs.Common.{refl, ap, ◌∙◌}
 use Rattle.answer.specs.declared.Answer.{Answer}
 use Rattle.answer.specs.Put.{after_line, with_line}
 use Rattle.block.proofs.BlockLaws.{piece_refused}

@@ -1,8 +1,5 @@
-use Prim.Native.Nat.{◌-◌, ◌/◌}
 use mathlib.Core.Path.{refl}
-use lib.ListN.{length}
-use Rattle.chain.specs.Chain.{reading_length}
-use Rattle.chain.proofs.Loops.{Made, made_none, made_more, made_all}
+use Rattle.chain.proofs.Loops.{made_none, made_more, made_all}
 use borrow.Author.Rules.{rules}
 use Rattle.chain.proofs.readings_of.Goals as goal
 

@@ -1,9 +1,7 @@
 use Prim.Native.Nat.{◌-◌, ◌/◌}
-use mathlib.Core.Path.{refl}
 use lib.ListN.{length}
 use Rattle.chain.specs.Chain.{reading_length}
-use Rattle.chain.proofs.Loops.{Made, made_none, made_more, made_all}
-use borrow.Author.Rules.{rules}
+use Rattle.chain.proofs.Loops.{Made}
 use Rattle.chain.proofs.readings_of.Given as goal
 
 abbrev pub invariant-loop-i : goal.invariant-loop-i

@@ -1,6 +1,4 @@
-use Prim.Native.Nat.{◌-◌}
-use lib.ListN.{length}
-use Rattle.chain.proofs.Loops.{Stands, begins, turned, ends}
+use Rattle.chain.proofs.Loops.{begins, turned, ends}
 use Rattle.chain.proofs.take_readings.Goals as goal
 
 pub loop-at-init : goal.loop-at-init

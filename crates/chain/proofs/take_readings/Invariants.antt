@@ -1,6 +1,6 @@
 use Prim.Native.Nat.{◌-◌}
 use lib.ListN.{length}
-use Rattle.chain.proofs.Loops.{Stands, begins, turned, ends}
+use Rattle.chain.proofs.Loops.{Stands}
 use Rattle.chain.proofs.take_readings.Given as goal
 
 abbrev pub invariant-loop-at : goal.invariant-loop-at

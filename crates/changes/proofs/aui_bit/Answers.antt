@@ -1,4 +1,3 @@
-
 use Rattle.changes.proofs.aui_bit.Goals as goal
 
 pub returns : goal.returns

@@ -1,11 +1,7 @@
 use Rattle.changes.specs.Changes.{noted}
 use Rattle.ports.proofs.Each.{done_none, done_more, done_all}
-use Rattle.ports.specs.Each.{done}
-use lib.Bits.{bit_or}
-use lib.ListN.{get_or}
 use native.Mathlib.Omega.{arith}
-use mathlib.Core.Path.{◌≡◌, ◌∙◌, refl}
-use Prim.Native.Nat.{◌≤◌, ◌-◌}
+use mathlib.Core.Path.{◌∙◌, refl}
 use borrow.Author.Rules.{rules}
 use Rattle.changes.proofs.note.Goals as goal
 

@@ -1,12 +1,8 @@
-use Rattle.changes.specs.Changes.{noted}
-use Rattle.ports.proofs.Each.{done_none, done_more, done_all}
 use Rattle.ports.specs.Each.{done}
 use lib.Bits.{bit_or}
 use lib.ListN.{get_or}
-use native.Mathlib.Omega.{arith}
-use mathlib.Core.Path.{◌≡◌, ◌∙◌, refl}
+use mathlib.Core.Path.{◌≡◌}
 use Prim.Native.Nat.{◌≤◌, ◌-◌}
-use borrow.Author.Rules.{rules}
 use Rattle.changes.proofs.note.Given as goal
 
 abbrev pub invariant-loop-i : goal.invariant-loop-i

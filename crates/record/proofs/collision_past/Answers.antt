@@ -1,4 +1,3 @@
-
 use Rattle.record.proofs.collision_past.Goals as goal
 
 pub returns : goal.returns

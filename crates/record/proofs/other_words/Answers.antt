@@ -1,4 +1,3 @@
-
 use Rattle.record.proofs.other_words.Goals as goal
 
 pub returns : goal.returns

@@ -1,8 +1,5 @@
-use Prim.Native.Nat.{◌≤◌, ◌-◌, ◌+◌}
-use mathlib.Core.Path.{◌≡◌, refl, ◌∙◌}
+use mathlib.Core.Path.{refl, ◌∙◌}
 use native.Mathlib.Omega.{arith}
-use lib.ListN.{get_or}
-use Rattle.ports.specs.Each.{done}
 use Rattle.ports.proofs.Each.{done_none, done_more, done_all}
 use Rattle.start.specs.Start.{address_from}
 use borrow.Author.Rules.{rules}

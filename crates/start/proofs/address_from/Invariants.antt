@@ -1,11 +1,7 @@
 use Prim.Native.Nat.{◌≤◌, ◌-◌, ◌+◌}
-use mathlib.Core.Path.{◌≡◌, refl, ◌∙◌}
-use native.Mathlib.Omega.{arith}
+use mathlib.Core.Path.{◌≡◌}
 use lib.ListN.{get_or}
 use Rattle.ports.specs.Each.{done}
-use Rattle.ports.proofs.Each.{done_none, done_more, done_all}
-use Rattle.start.specs.Start.{address_from}
-use borrow.Author.Rules.{rules}
 use Rattle.start.proofs.address_from.Given as goal
 
 abbrev pub invariant-loop-j : goal.invariant-loop-j

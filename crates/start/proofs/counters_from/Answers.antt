@@ -1,10 +1,7 @@
-use Prim.Native.Nat.{◌≤◌, ◌-◌, ◌+◌, ◌*◌}
-use mathlib.Core.Path.{◌≡◌, ◌∙◌}
+use mathlib.Core.Path.{◌∙◌}
 use native.Mathlib.Omega.{arith}
-use Rattle.ports.specs.Each.{done}
 use Rattle.ports.proofs.Each.{done_none, done_more, done_all}
-use Rattle.attributes.specs.Nine.{counter_count}
-use Rattle.start.specs.Start.{number_from, counters_from}
+use Rattle.start.specs.Start.{counters_from}
 use borrow.Author.Rules.{rules}
 use Rattle.start.proofs.counters_from.Goals as goal
 

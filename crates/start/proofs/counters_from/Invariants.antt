@@ -1,11 +1,8 @@
 use Prim.Native.Nat.{◌≤◌, ◌-◌, ◌+◌, ◌*◌}
-use mathlib.Core.Path.{◌≡◌, ◌∙◌}
-use native.Mathlib.Omega.{arith}
+use mathlib.Core.Path.{◌≡◌}
 use Rattle.ports.specs.Each.{done}
-use Rattle.ports.proofs.Each.{done_none, done_more, done_all}
 use Rattle.attributes.specs.Nine.{counter_count}
-use Rattle.start.specs.Start.{number_from, counters_from}
-use borrow.Author.Rules.{rules}
+use Rattle.start.specs.Start.{number_from}
 use Rattle.start.proofs.counters_from.Given as goal
 
 abbrev pub invariant-loop-r : goal.invariant-loop-r

@@ -1,4 +1,4 @@
-use Prim.Native.Nat.{ℕ, suc, ◌≤◌, ◌-◌, ◌+◌, ◌*◌}
+use Prim.Native.Nat.{ℕ, suc, ◌+◌, ◌*◌}
 use mathlib.Core.Path.{◌≡◌, ap, ◌∙◌}
 use mathlib.Core.List.{List}
 use native.Mathlib.Omega.{arith}
@@ -6,7 +6,6 @@ use Rattle.ports.specs.Sets.{port_count}
 use Rattle.attributes.specs.declared.Attributes.{Attributes}
 use Rattle.attributes.specs.declared.Nine.{Nine}
 use Rattle.attributes.specs.Nine.{nothing_counted, with_port}
-use Rattle.attributes.specs.Flat.{nine_in}
 use Rattle.start.specs.Start.{port_size, port_from, nine_up_to}
 use borrow.Author.Rules.{rules}
 use Rattle.start.proofs.nine_in.Goals as goal

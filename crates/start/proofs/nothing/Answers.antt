@@ -1,4 +1,3 @@
-
 use Rattle.start.proofs.nothing.Goals as goal
 
 pub returns : goal.returns

@@ -3,11 +3,10 @@ use mathlib.Core.Path.{◌≡◌, sym, ◌∙◌}
 use native.Mathlib.Omega.{arith}
 use lib.Bits.{bit_and}
 use lib.Count.{count_trailing_zeros}
-use Rattle.ports.specs.Each.{each}
 use Rattle.store.specs.Door.{no_row}
-use Rattle.store.specs.Visits.{on_set, is_full, visited}
+use Rattle.store.specs.Visits.{is_full, visited}
 use Rattle.ports.proofs.Places.{First, first_is, first_low}
-use Rattle.store.proofs.Visiting.{Found, visit_none, visit_turn, found_none, found_in, found_out, found_all}
+use Rattle.store.proofs.Visiting.{visit_none, visit_turn, found_none, found_in, found_out, found_all}
 use Rattle.store.proofs.visit_all.Goals as goal
 
 first_at : (m i : ℕ) → m < 512 → (m ≡ 0 → ⊥) → i ≡ count_trailing_zeros 32 m → First m i (bit_and m (m - 1))

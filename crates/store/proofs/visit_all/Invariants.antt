@@ -1,12 +1,9 @@
-use Prim.Native.Nat.{◌-◌, ◌<◌}
-use mathlib.Core.Path.{◌≡◌, sym, ◌∙◌}
-use native.Mathlib.Omega.{arith}
-use lib.Bits.{bit_and}
+use Prim.Native.Nat.{◌<◌}
+use mathlib.Core.Path.{◌≡◌}
 use Rattle.ports.specs.Each.{each}
 use Rattle.store.specs.Door.{no_row}
 use Rattle.store.specs.Visits.{on_set, is_full, visited}
-use Rattle.ports.proofs.Places.{First, first_is, first_low}
-use Rattle.store.proofs.Visiting.{Found, visit_none, visit_turn, found_none, found_in, found_out, found_all}
+use Rattle.store.proofs.Visiting.{Found}
 use Rattle.store.proofs.visit_all.Given as goal
 
 abbrev pub invariant-loop-m : goal.invariant-loop-m

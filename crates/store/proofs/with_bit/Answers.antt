@@ -1,4 +1,3 @@
-
 use Rattle.store.proofs.with_bit.Goals as goal
 
 pub returns-then-b : goal.returns-then-b

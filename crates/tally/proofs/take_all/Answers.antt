@@ -1,12 +1,12 @@
-use Prim.Native.Nat.{ℕ, ◌-◌, ◌≤◌, ◌<◌}
+use Prim.Native.Nat.{ℕ, ◌≤◌, ◌<◌}
 use mathlib.Core.Path.{◌≡◌, refl}
 use mathlib.Core.List.{List}
 use native.Mathlib.Omega.{arith}
 use lib.ListN.{length, get_or}
 use mir.Val.{Fits}
 use mir.Syntax.{w32}
-use Rattle.tally.specs.Tally.{standing, end_of}
-use Rattle.tally.proofs.TallyLaws.{Stands, begins, turned, ends, end_after, end_inside, refusal_low}
+use Rattle.tally.specs.Tally.{end_of}
+use Rattle.tally.proofs.TallyLaws.{begins, turned, ends, end_after, end_inside, refusal_low}
 use borrow.Author.Rules.{rules}
 use Rattle.tally.proofs.take_all.Goals as goal
 

@@ -1,12 +1,7 @@
-use Prim.Native.Nat.{◌-◌, ◌≤◌, ◌<◌}
-use mathlib.Core.Path.{refl}
-use native.Mathlib.Omega.{arith}
-use lib.ListN.{length, get_or}
-use mir.Val.{Fits}
-use mir.Syntax.{w32}
+use Prim.Native.Nat.{◌-◌}
+use lib.ListN.{length}
 use Rattle.tally.specs.Tally.{standing}
-use Rattle.tally.proofs.TallyLaws.{Stands, begins, turned, ends, end_after, end_inside, refusal_low}
-use borrow.Author.Rules.{rules}
+use Rattle.tally.proofs.TallyLaws.{Stands}
 use Rattle.tally.proofs.take_all.Given as goal
 
 abbrev pub invariant-loop-at : goal.invariant-loop-at

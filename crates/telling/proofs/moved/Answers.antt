@@ -1,11 +1,8 @@
-use Prim.Native.Nat.{◌≤◌, ◌<◌}
-use mathlib.Core.Path.{◌≡◌, ◌∙◌}
-use mathlib.Core.List.{[]}
+use Prim.Native.Nat.{◌<◌}
+use mathlib.Core.Path.{◌∙◌}
 use native.Mathlib.Omega.{arith}
-use Rattle.ports.proofs.Sets.{gather_from, from_none, from_turn, from_lt}
-use Rattle.attributes.specs.Nine.{counter_of}
-use Rattle.attributes.specs.Flat.{nine_of}
-use Rattle.telling.specs.Telling.{differ, moved_of}
+use Rattle.ports.proofs.Sets.{from_none, from_turn, from_lt}
+use Rattle.telling.specs.Telling.{moved_of}
 use Rattle.telling.proofs.TellingLaws.{moved_made}
 use borrow.Author.Rules.{rules}
 use Rattle.telling.proofs.moved.Goals as goal

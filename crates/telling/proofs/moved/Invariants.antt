@@ -1,13 +1,10 @@
-use Prim.Native.Nat.{◌≤◌, ◌<◌}
-use mathlib.Core.Path.{◌≡◌, ◌∙◌}
+use Prim.Native.Nat.{◌≤◌}
+use mathlib.Core.Path.{◌≡◌}
 use mathlib.Core.List.{[]}
-use native.Mathlib.Omega.{arith}
-use Rattle.ports.proofs.Sets.{gather_from, from_none, from_turn, from_lt}
+use Rattle.ports.proofs.Sets.{gather_from}
 use Rattle.attributes.specs.Nine.{counter_of}
 use Rattle.attributes.specs.Flat.{nine_of}
-use Rattle.telling.specs.Telling.{differ, moved_of}
-use Rattle.telling.proofs.TellingLaws.{moved_made}
-use borrow.Author.Rules.{rules}
+use Rattle.telling.specs.Telling.{differ}
 use Rattle.telling.proofs.moved.Given as goal
 
 abbrev pub invariant-loop-i : goal.invariant-loop-i

@@ -1,9 +1,7 @@
-use Prim.Native.Nat.{◌+◌, ◌*◌, ◌-◌, ◌≤◌}
 use mathlib.Core.Path.{◌≡◌, refl, ap}
 use native.Mathlib.Omega.{arith}
-use lib.ListN.{length, take}
+use lib.ListN.{take}
 use lib.Seq.{take_all}
-use Rattle.answer.specs.Put.{Put}
 use Rattle.answer.proofs.Pieces.{put_as}
 use Rattle.telling.specs.Telling.{spelt}
 use Rattle.telling.proofs.TellingLaws.{spelt_none, spelt_more}

@@ -1,13 +1,8 @@
 use Prim.Native.Nat.{◌+◌, ◌*◌, ◌-◌, ◌≤◌}
-use mathlib.Core.Path.{◌≡◌, refl, ap}
-use native.Mathlib.Omega.{arith}
+use mathlib.Core.Path.{◌≡◌}
 use lib.ListN.{length, take}
-use lib.Seq.{take_all}
 use Rattle.answer.specs.Put.{Put}
-use Rattle.answer.proofs.Pieces.{put_as}
 use Rattle.telling.specs.Telling.{spelt}
-use Rattle.telling.proofs.TellingLaws.{spelt_none, spelt_more}
-use borrow.Author.Rules.{rules}
 use Rattle.telling.proofs.put_words.Given as goal
 
 abbrev pub invariant-loop-i : goal.invariant-loop-i

@@ -1,5 +1,5 @@
-use Rattle.std.proofs.Common.{◌-◌, length, ◌∙◌, arith, rules}
-use Rattle.attributes.proofs.Totals.{Going, begins, turned, over, ends}
+use Rattle.std.proofs.Common.{◌∙◌, arith, rules}
+use Rattle.attributes.proofs.Totals.{begins, turned, over, ends}
 use borrow.Author.Rules.{rules}
 use Rattle.attributes.proofs.octets.carried.Goals as goal
 

@@ -1,6 +1,5 @@
-use Rattle.std.proofs.Common.{◌-◌, length, ◌∙◌, arith, rules}
-use Rattle.attributes.proofs.Totals.{Going, begins, turned, over, ends}
-use borrow.Author.Rules.{rules}
+use Rattle.std.proofs.Common.{◌-◌, length}
+use Rattle.attributes.proofs.Totals.{Going}
 use Rattle.attributes.proofs.octets.carried.Given as goal
 
 abbrev pub invariant-loop-i : goal.invariant-loop-i

@@ -1,5 +1,5 @@
 use Rattle.attributes.specs.Octets.{check_of}
-use Rattle.std.proofs.Common.{rules, le-ltb, lt-ltb, le-leb}
+use Rattle.std.proofs.Common.{le-ltb, lt-ltb, le-leb}
 use borrow.Author.Tests.{lt-leb}
 use Rattle.attributes.proofs.octets.octet_check.Goals as goal
 

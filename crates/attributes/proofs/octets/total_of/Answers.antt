@@ -1,4 +1,4 @@
-use Rattle.std.proofs.Common.{◌∙◌, rules}
+use Rattle.std.proofs.Common.{◌∙◌}
 use Rattle.attributes.proofs.Totals.{none_at_all, from_first}
 use Rattle.attributes.proofs.octets.total_of.Goals as goal
 

@@ -1,4 +1,4 @@
-use Rattle.std.proofs.Common.{◌∙◌, rules}
+use Rattle.std.proofs.Common.{◌∙◌}
 use Rattle.attributes.proofs.Totals.{on_sum, on_too_large}
 use Rattle.attributes.proofs.octets.total_on.Goals as goal
 

@@ -1,4 +1,4 @@
-use Rattle.std.proofs.Common.{sym, ◌∙◌, rules}
+use Rattle.std.proofs.Common.{sym, ◌∙◌}
 use Rattle.chip.specs.Chip.{settled_of}
 use Rattle.chip.proofs.Choices.settled.Goals as goal
 

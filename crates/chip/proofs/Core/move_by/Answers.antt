@@ -1,4 +1,3 @@
-use Rattle.std.proofs.Common.{rules}
 use Rattle.chip.proofs.Core.move_by.Goals as goal
 
 pub returns : goal.returns

@@ -1,5 +1,4 @@
 use Rattle.chip.specs.Chip.{moved}
-use Rattle.std.proofs.Common.{rules}
 use Rattle.chip.proofs.Core.move_to.Goals as goal
 
 pub returns : goal.returns

@@ -1,4 +1,4 @@
-use Rattle.std.proofs.Common.{false, rules}
+use Rattle.std.proofs.Common.{false}
 use Rattle.repeater.proofs.Kept.{partitioned_quieted}
 use Rattle.chip.proofs.ChipLaws.{moved_still}
 use Rattle.chip.proofs.Core.pass.Goals as goal

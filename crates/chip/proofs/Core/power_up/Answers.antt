@@ -1,4 +1,3 @@
-use Rattle.std.proofs.Common.{rules}
 use Rattle.chip.proofs.Core.power_up.Goals as goal
 
 pub returns : goal.returns

@@ -1,4 +1,3 @@
-
 use Rattle.record.proofs.Burst.read.Goals as goal
 
 pub returns : goal.returns

@@ -1,4 +1,3 @@
-
 use Rattle.repeater.proofs.Repeater.power_up.Goals as goal
 
 pub returns : goal.returns

@@ -1,7 +1,5 @@
-use Prim.Native.Nat.{◌-◌, ◌≤◌}
-use mathlib.Core.Path.{◌≡◌}
 use native.Mathlib.Omega.{arith}
-use Rattle.store.proofs.DoorLaws.{turns, nobody_made, more_made, alike_made}
+use Rattle.store.proofs.DoorLaws.{nobody_made, more_made, alike_made}
 use borrow.Author.Rules.{rules}
 use Rattle.store.proofs.Ports.alike.Goals as goal
 

@@ -1,8 +1,6 @@
 use Prim.Native.Nat.{◌-◌, ◌≤◌}
 use mathlib.Core.Path.{◌≡◌}
-use native.Mathlib.Omega.{arith}
-use Rattle.store.proofs.DoorLaws.{turns, nobody_made, more_made, alike_made}
-use borrow.Author.Rules.{rules}
+use Rattle.store.proofs.DoorLaws.{turns}
 use Rattle.store.proofs.Ports.alike.Given as goal
 
 abbrev pub invariant-loop-i : goal.invariant-loop-i
