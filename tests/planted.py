@@ -254,7 +254,11 @@ rule('only_data_sent_zeroes', 'Partition, Q-2', "By the alternate algorithm too 
      ('repeater/proofs/Events.antt', 'long = λ h. and_first _ _ h;', 'long = λ h. h;'))
 rule('alternate_as_standard', 'Partition', 'By the alternate algorithm only data sent to the port reconnects it.', 'its own activity does too',
      ('burst/specs/Clean.antt', '(not alternate || data_to effect i)', '(true || data_to effect i)'),
-     ('burst/src/lib.rt', 'return lasting & self.data();', 'let sent = self.data(); return lasting;'))
+     ('burst/src/lib.rt', 'return lasting & self.data();', 'let sent = self.data(); return lasting;'),
+     ('burst/proofs/Effect/reconnecting/Answers.antt',
+      'both_set (reconnecting_at a.self a.lasting a.alternate) (data_to a.self) a.lasting _ (omega arith) c.«data».ensures',
+      'same_set (reconnecting_at a.self a.lasting a.alternate) _ (omega arith)'),
+     ('burst/proofs/Effect/reconnecting/Answers.antt', '(λ i. simp c.if-alternate.true)', '(λ i. simp and-true)'))
 rule('algorithms_exchanged', 'Partition', "AUI goes by its own algorithm, the TP ports by theirs.", 'the other way round',
      *both('repeater', 'Repeater', 'alternate_for for_aui for_tp i = cond (eqb i aui) for_aui for_tp', 'alternate_for for_aui for_tp i = cond (eqb i aui) for_tp for_aui',
            'lib', 'algorithms(back_aui, back_tp);', 'algorithms(back_tp, back_aui);'))
@@ -533,7 +537,7 @@ rule('past_the_end_is_the_last', 'Host registers', "A place past the register's 
      ('host/specs/Sequence.antt', '(cond (ltb host.place size) host.place 0) 0', '(cond (ltb host.place size) host.place 1) 0'),
      ('host/src/lib.rt', '            return host.place;\n        }\n        return Host::FIRST;', '            return host.place;\n        }\n        return 1;'))
 rule('written_address_is_counted', 'Host registers', 'A write of the address is no change.', 'it is counted',
-     ('attributes/specs/Nine.antt', 'with_address port source = record { counters = port.counters; address = source }', 'with_address port source = record { counters = set port.counters 12 1; address = source }'),
+     ('attributes/specs/Nine.antt', 'with_address port source = record { counters = port.counters; address = source }', 'with_address port source = record { counters = slice_set port.counters 12 1; address = source }'),
      ('himib/src/lib.rt', '    attributes::readdress(addresses, acted.port, bytes);', '    attributes::readdress(addresses, acted.port, bytes);\n    if acted.port < ports::COUNT {\n        counters[108 + acted.port] = 1;\n    }'))
 rule('get_error_reversed', 'Host registers', 'A Get through S sets the interface error, one through G does not.', 'the other way round',
      ('access/specs/Access.antt', '(c.interface_error || not through_g)', '(c.interface_error || through_g)'),

@@ -64,7 +64,7 @@ def renamed():
     found, generated = declared()
     table = {}
     for name in found:
-        if name in generated and not any('/specs/' in str(p) or p.parent.name == 'proofs' for p in found[name]):
+        if name in generated and not any('specs' in p.parts or p.parent.name == 'proofs' for p in found[name]):
             continue
         new = snake(name)
         if new != name and re.match(r"[A-Za-z]", name):
@@ -108,7 +108,7 @@ def main():
     if '--look' in sys.argv:
         return
     for path in sorted((TOP / 'crates').rglob('*')):
-        if path.suffix not in ('.antt', '.rt') or '/out/' in str(path):
+        if path.suffix not in ('.antt', '.rt') or 'out' in path.parts:
             continue
         text = path.read_text()
         kept = {n.strip().split(' as ')[-1] for m in KIT.finditer(text) for n in m[1].split(',')}

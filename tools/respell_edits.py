@@ -3,7 +3,7 @@
 
 Run once at the top, after the kit's port.py and tools/respell.py, which turn neither. What an edit or a rule replaces is turned word by word: the names by
 respell's table, paths, operators and projections as port.py writes them. BY_HAND has what that cannot say: an import line that is merged today, a contract,
-the proof of a function, which the check writes anew. With --look nothing is written, and each text is listed that does not stand once in its file.
+the proof of a function. With --look nothing is written, and each text is listed that does not stand once in its file.
 """
 
 import ast
@@ -54,6 +54,8 @@ BY_HAND = {
     ('start/laid_out_by_port', 'src/lib.rt', '    requires { ⌜ i + portSize ≤ length (now s) ⌝ }'): [
         ('    requires { i + port_size ≤ length s.now }', '    requires room { i + port_size ≤ length s.now } requires whole { length s.now ≡ start_size }')],
 }
+# A model of this edit lacked a field, so that nothing but that refused it.
+LACKING = 'total_octets = p.chip.core.kept.total_octets })', 'total_octets = p.chip.core.kept.total_octets; choices = t.after.chip.core.kept.choices })'
 RULES_BY_HAND = {
     '            bytes[24],\n            bytes[25],': 'bytes[24], bytes[25],',
     '            bytes[25],': 'bytes[25],',
@@ -75,9 +77,25 @@ RULES_BY_HAND = {
     'use mathlib.Core.Bool.{true, false}': 'use Rattle.std.specs.Prelude.{true, false}',
     'leb shortFrom (choices': 'nat_le short_from choices',
     'leb 74 (choices': 'nat_le 74 choices',
+    'burst/proofs/Effect/reconnecting/Proof.antt': 'burst/proofs/Effect/reconnecting/Answers.antt',
+    'both-set (reconnectingAt (a .self) (a .lasting) (a .alternate)) (dataTo (a .self)) (a .lasting) _ (omega arith) (c .«data» .ensures)':
+        'both_set (reconnecting_at a.self a.lasting a.alternate) (data_to a.self) a.lasting _ (omega arith) c.«data».ensures',
+    '(λ i. simp (c .before .if1 .taken))': '(λ i. simp c.if-alternate.true)',
+    '(λ i. simp and-true)': '(λ i. simp and-true)',
 }
-# The proofs of functions that edits went along with: what a function returns is found anew in an edited crate, or refused there.
-OWN_PROOFS = 'proofs/Effect/reconnecting/Proof.antt', 'proofs/counters_from/Proof.antt'
+# The proofs of functions that edits went along with, in their old form: dropped, and today's form put at the end.
+OLD_PROOFS = 'proofs/Effect/reconnecting/Proof.antt', 'proofs/counters_from/Proof.antt'
+OWN_PROOFS = {
+    'burst/alternate_ignored': [
+        ('proofs/Effect/reconnecting/Answers.antt',
+         '    both_set (reconnecting_at a.self a.lasting a.alternate) (data_to a.self) a.lasting _ (omega arith) c.«data».ensures',
+         '    same_set (reconnecting_at a.self a.lasting a.alternate) _ (omega arith)'),
+        ('proofs/Effect/reconnecting/Answers.antt', '    (λ i. simp c.if-alternate.true)', '    (λ i. simp and-true)')],
+    'start/laid_out_by_port': [
+        ('proofs/counters_from/Invariants.antt', 'use Prim.Native.Nat.{◌≤◌, ◌-◌, ◌+◌, ◌*◌}', 'use Prim.Native.Nat.{◌≤◌, ◌-◌, ◌+◌, ◌*◌, ◌/◌, ◌%◌}'),
+        ('proofs/counters_from/Invariants.antt', 'number_from l.s (l.i + 4 * k)', 'number_from l.s (58 * ((9 * k + l.i / 58) / 13) + 4 * ((9 * k + l.i / 58) % 13))'),
+        ('proofs/counters_from/Answers.antt', 'c.number_from.ensures)', '(c.number_from.ensures ∙ rw c.byte_of.ensures))')],
+}
 
 
 def tree(commit, folder):
@@ -153,7 +171,7 @@ def spelt(text, table):
 def native(text, today):
     """Comparisons and places as those files have them that speak of machine numbers."""
     words = set(re.findall(r'[^\s{},]+', ' '.join(re.findall(r'use Rattle\.std\.specs\.Prelude\.\{([^}]*)\}', today))))
-    for old, new in ('ltb', 'nat_lt'), ('leb', 'nat_le'):
+    for old, new in ('ltb', 'nat_lt'), ('leb', 'nat_le'), ('set', 'slice_set'):
         if old not in words and new in words:
             text = re.sub(rf'(?<![.\w]){old}\b', new, text)
     if 'get_or' not in words and 'slice_index' in words:
@@ -203,16 +221,19 @@ def edits(table, look):
             if line.startswith('file: '):
                 path = line[6:].strip()
                 today = (crate / path).read_text() if (crate / path).is_file() else ''
-                lines += [line] if path not in OWN_PROOFS else []
+                lines += [line] if path not in OLD_PROOFS else []
             elif line.startswith('old: '):
                 old = line[5:]
             elif not line.startswith('new:'):
                 lines.append(remark(line, table))
-            elif path not in OWN_PROOFS:
+            elif path not in OLD_PROOFS:
                 new = line[4:].removeprefix(' ')
-                for pair in BY_HAND.get((name, path, old)) or [(turned(old, path, table, today), turned(new, path, table, today))]:
+                for pair in BY_HAND.get((name, path, old)) or [(turned(old, path, table, today), turned(new, path, table, today).replace(*LACKING))]:
                     changes.append((path, *pair))
                     lines += [f'old: {pair[0]}', f'new: {pair[1]}' if pair[1] else 'new:']
+        for path, *pair in OWN_PROOFS.get(name, ()):
+            changes.append((path, *pair))
+            lines += [f'file: {path}', f'old: {pair[0]}', f'new: {pair[1]}']
         bad = replaced(crate, changes)
         wrong += bool(bad)
         for line in bad:
