@@ -1,9 +1,9 @@
 #!/usr/bin/env python3
 """Measures a program against the model in plain Rust, on the same traces in the same run.
 
-    bench.py [PROGRAM] [--records N] [--rounds N] [--copy] [--without-counts] [--without-memory]
+    bench.py [PROGRAM] [--records N] [--rounds N] [--without-counts] [--without-memory]
 
-PROGRAM is target/bin/run unless named; the word 'model' measures the model against itself. See README.md.
+PROGRAM is crates/run/out/run unless named; the word 'model' measures the model against itself. See README.md.
 """
 
 import argparse
@@ -20,7 +20,6 @@ from pathlib import Path
 TESTS = Path(__file__).resolve().parent.parent / 'tests'
 sys.path.insert(0, str(TESTS))
 
-import native
 import program
 import record as rec
 
@@ -240,19 +239,15 @@ def measure_memory(contestants):
 
 def main():
     parser = argparse.ArgumentParser(description='Measures a program against the model of document 01.')
-    parser.add_argument('program', nargs='?', default=str(program.PROVED), help="a path, or 'model' (default: target/bin/run)")
+    parser.add_argument('program', nargs='?', default=str(program.PROVED), help="a path, or 'model' (default: crates/run/out/run)")
     parser.add_argument('--records', type=int, default=1_000_000, help='records in each trace (default 1,000,000)')
     parser.add_argument('--rounds', type=int, default=9, help='runs of each, of which the best counts (default 9)')
-    parser.add_argument('--copy', action='store_true', help="measure a copy compiled for this machine, as is done where it isn't x86-64")
     parser.add_argument('--without-counts', action='store_true', help='no counting of instructions and stack')
     parser.add_argument('--without-memory', action='store_true', help='no measuring of memory')
     words = parser.parse_args()
     contestants = {'program': program.named(words.program), 'model': [str(program.model())]}
     with tempfile.TemporaryDirectory(prefix='bench.') as name:
         folder = Path(name)
-        if words.copy or len(contestants['program']) > 1:
-            print('Measured is a copy of the proved program, compiled for this machine.')
-            contestants['program'] = [str(native.copy(folder))]
         measure_time(contestants, folder, words.records, words.rounds)
         if not words.without_counts:
             measure_counts(contestants, folder)

@@ -1,7 +1,7 @@
 #!/usr/bin/env python3
 """Measures the program export: a whole trace beside the model in plain Rust, and one attribute beside nine banks.
 
-    export.py [--records N] [--rounds N] [--copy] [--without-counts]
+    export.py [--records N] [--rounds N] [--without-counts]
 
 See README.md.
 """
@@ -12,11 +12,10 @@ import tempfile
 from pathlib import Path
 
 import bench
-import native
 import program
 import record as rec
+import roverivet
 
-BUILT = program.PROVED.parent
 FEW = 10_000
 READS = b''.join(b''.join([rec.C_WRITES[bank], rec.C_WRITES[0xE0 + 1], *[rec.D_READ_RECORD] * 4]) for bank in bench.BANKS)
 
@@ -35,15 +34,11 @@ def main():
     parser = argparse.ArgumentParser(description='Measures the program export against the model of document 01.')
     parser.add_argument('--records', type=int, default=1_000_000, help='records in each trace (default 1,000,000)')
     parser.add_argument('--rounds', type=int, default=9, help='runs of each, of which the best counts (default 9)')
-    parser.add_argument('--copy', action='store_true', help="measure copies compiled for this machine, as is done where it isn't x86-64")
     parser.add_argument('--without-counts', action='store_true', help='no counting of instructions')
     words = parser.parse_args()
-    export, run = (program.command(BUILT / name) for name in ('export', 'run'))
+    export, run = (program.command(roverivet.built(name)) for name in ('export', 'run'))
     with tempfile.TemporaryDirectory(prefix='bench.') as name:
         folder = Path(name)
-        if words.copy or len(export) > 1:
-            print('Measured are copies of the proved programs, compiled for this machine.')
-            export, run = ([str(native.copy(folder, one))] for one in ('export', 'run'))
         contestants = {'program': [*export, 'all'], 'model': [str(program.model()), '--export', 'all']}
         bench.measure_time(contestants, folder, words.records, words.rounds)
         if words.without_counts:

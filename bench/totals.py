@@ -1,7 +1,7 @@
 #!/usr/bin/env python3
 """Measures the program totals: the readings of one counter beside a plain loop in Rust, the model's --totals.
 
-    totals.py [--readings N] [--rounds N] [--copy] [--without-counts]
+    totals.py [--readings N] [--rounds N] [--without-counts]
 
 See README.md.
 """
@@ -14,10 +14,9 @@ import tempfile
 from pathlib import Path
 
 import bench
-import native
 import program
+import roverivet
 
-BUILT = program.PROVED.parent / 'totals'
 END = 1 << 32
 BLOCK = 10_000  # readings that are said over and over
 TIMES = 20  # for its time, a list is read so often
@@ -57,17 +56,13 @@ def main():
     parser = argparse.ArgumentParser(description='Measures the program totals against a plain loop in Rust.')
     parser.add_argument('--readings', type=int, default=1_000_000, help='readings in each list (default 1,000,000)')
     parser.add_argument('--rounds', type=int, default=9, help='runs of each, of which the best counts (default 9)')
-    parser.add_argument('--copy', action='store_true', help="measure a copy compiled for this machine, as is done where it isn't x86-64")
     parser.add_argument('--without-counts', action='store_true', help='no counting of instructions')
     words = parser.parse_args()
-    totals = program.command(BUILT)
+    totals = program.command(roverivet.built('totals'))
     with tempfile.TemporaryDirectory(prefix='bench.') as name:
         folder = Path(name)
         empty = folder / 'empty'
         empty.write_bytes(b'')
-        if words.copy or len(totals) > 1:
-            print('Measured is a copy of the proved program, compiled for this machine.')
-            totals = [str(native.copy(folder, 'totals'))]
         contestants = {'program': totals, 'model': [str(program.model()), '--totals']}
 
         def time(path):

@@ -7,7 +7,6 @@ import sys
 import time
 
 import roverivet
-import roverivet_version
 from roverivet import CHECKED, HERE, Missing, PROGRAM
 from tools.progress import Progress
 
@@ -23,12 +22,12 @@ def ensure(progress=None):
     if not shutil.which('rt'):
         raise Missing('the program must be proved and built first, and there is no rt on the path')
     state = 'older than its sources' if PROGRAM.exists() else 'not built yet'
-    print(f'roverivet: target/bin/run is {state}: proving it first, then building it (rt check run); '
+    print(f'roverivet: {shown("run")} is {state}: proving it first, then building it (rt run in crates/run); '
           'this takes minutes', file=sys.stderr, flush=True)
     began = time.time()
     if proved('run', progress or Progress('build')):
-        raise Missing('rt check run failed: the program is not proved, so it is not run')
-    CHECKED.write_text(roverivet_version.proof_line() + '\n')
+        raise Missing('rt run in crates/run failed: the program is not proved, so it is not run')
+    CHECKED.touch()
     os.utime(CHECKED, (began, began))
     roverivet.command()
     roverivet.assured = True
@@ -37,36 +36,39 @@ def ensure(progress=None):
 # ---- the other programs
 
 
-def path_of(name):
-    return PROGRAM.parent / name
+path_of = roverivet.built
+
+
+def shown(name):
+    return path_of(name).relative_to(HERE)
 
 
 def usable(name, progress=None, replaced=True):
-    """Whether the program target/bin/NAME is there, and is one of those that are asked for. Proves and builds it where it is
-    missing or older than its sources, if there is anything to build it with. `replaced` says whether the program that
+    """Whether the program crates/NAME/out/NAME is there, and is one of those that are asked for. Proves and builds it where it
+    is missing or older than its sources, if there is anything to build it with. `replaced` says whether the program that
     ROVERIVET_RUN names is asked in its place."""
     if replaced and os.environ.get('ROVERIVET_RUN'):
         return False
-    checked = path_of(f'{name}.checked')  # touched when the sources were last found proved
+    checked = path_of(name).with_suffix('.checked')  # touched when the sources were last found proved
     if is_fresh(path_of(name), checked):
         return True
     if not shutil.which('rt') or not (HERE / 'crates.txt').exists():
         return False
-    print(f'roverivet: target/bin/{name} is missing or older than its sources: proving it first, then building it '
-          f'(rt check {name})', file=sys.stderr, flush=True)
+    print(f'roverivet: {shown(name)} is missing or older than its sources: proving it first, then building it '
+          f'(rt run in crates/{name})', file=sys.stderr, flush=True)
     began = time.time()
     if proved(name, progress or Progress('build')):
-        raise Missing(f'rt check {name} failed: the program is not proved, so it is not run')
+        raise Missing(f'rt run in crates/{name} failed: the program is not proved, so it is not run')
     checked.touch()
     os.utime(checked, (began, began))
     return True
 
 
 def need(name, progress=None):
-    """Leaves a program target/bin/NAME whose place no other can take, or raises Missing."""
+    """Leaves a program crates/NAME/out/NAME whose place no other can take, or raises Missing."""
     if not usable(name, progress, replaced=False):
         lacking = 'rt on the path' if (HERE / 'crates.txt').exists() else 'crates.txt to build it from'
-        raise Missing(f'target/bin/{name} must be proved and built first, and there is no {lacking}')
+        raise Missing(f'{shown(name)} must be proved and built first, and there is no {lacking}')
 
 
 def is_fresh(program, checked):
@@ -81,11 +83,15 @@ def is_fresh(program, checked):
 
 
 def proved(name, progress):
-    """Runs rt for a program, passes on to standard error what it prints, and gives its status."""
+    """Has rt prove and build a program, passes on to standard error what rt prints, and gives its status.
+
+    rt then runs the program, too: on nothing, with the arguments that the crate's file has for it, and what that prints is dropped."""
     progress.stage('lines of the checker')
-    with subprocess.Popen(['rt', 'check', name], cwd=HERE, stdin=subprocess.DEVNULL, stdout=subprocess.PIPE,
-                          stderr=subprocess.STDOUT) as process:
-        for line in process.stdout:
+    given = HERE / 'crates' / name / 'args'
+    words = ['--', *given.read_text().splitlines()] if given.exists() else []
+    with subprocess.Popen(['rt', 'run', *words], cwd=given.parent, stdin=subprocess.DEVNULL, stdout=subprocess.DEVNULL,
+                          stderr=subprocess.PIPE) as process:
+        for line in process.stderr:
             with progress.aside():
                 sys.stderr.buffer.write(line)
                 sys.stderr.flush()

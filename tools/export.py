@@ -36,7 +36,7 @@ def by_program(one, start, names, progress):
     word = 'all' if len(names) == len(ATTRIBUTES) else str(ATTRIBUTES.index(names[0]))
     more, file = roverivet._start_words(start)
     try:
-        process = subprocess.Popen(roverivet.loader() + [str(EXPORT), word] + more, env=roverivet._environment(), stdin=subprocess.PIPE,
+        process = subprocess.Popen(roverivet.starting(EXPORT) + [word] + more, stdin=subprocess.PIPE,
                                    stdout=subprocess.PIPE, stderr=subprocess.PIPE, pass_fds=[file.fileno()] if file else ())
     finally:
         if file:

@@ -86,8 +86,7 @@ class Teller:
     def __init__(self, start=None):
         words, file = roverivet._start_words(start)
         try:
-            self.process = subprocess.Popen(roverivet.loader() + [str(TELL)] + words, env=roverivet._environment(),
-                                            stdin=subprocess.PIPE, stdout=subprocess.PIPE, bufsize=1 << 16,
+            self.process = subprocess.Popen(roverivet.starting(TELL) + words, stdin=subprocess.PIPE, stdout=subprocess.PIPE, bufsize=1 << 16,
                                             pass_fds=[file.fileno()] if file else ())
         finally:
             if file:

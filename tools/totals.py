@@ -56,7 +56,7 @@ def blocks(some):
 
 def summed(path, number, progress):
     """The sum of differences of the readings in an open file, or None where 64 bits do not hold it."""
-    process = subprocess.Popen([*roverivet.loader(), str(TOTALS)], env=roverivet._environment(), stdin=subprocess.PIPE,
+    process = subprocess.Popen(roverivet.starting(TOTALS), stdin=subprocess.PIPE,
                                stdout=subprocess.PIPE, stderr=subprocess.PIPE)
     try:
         with os.fdopen(number, 'rb') as file:

@@ -317,7 +317,7 @@ def parser():
         prog='roverivet', description='The proved model of one IMR+ repeater with its HIMIB, for people.',
         epilog='Exit status: 0 fine; 1 a finding; 2 bad usage, input or output; 3 the program is missing or '
                'cannot be built. The environment variable ROVERIVET_RUN names another program in place of '
-               'target/bin/run. docs/TUTORIAL.md is the place to start.')
+               'crates/run/out/run. docs/TUTORIAL.md is the place to start.')
     top.add_argument('--version', action='store_true', help='say which model this is: rules, commit, proofs, toolchain, program')
     verbs = top.add_subparsers(metavar='VERB')
 

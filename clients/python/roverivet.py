@@ -13,7 +13,7 @@ missing, surplus, out of order, or that no record of its kind can have raises En
 time. Nothing here models the chip: the answers are the program's. What stands here is the record's layout, the
 names of ports, registers and commands, and the refusals, for their reasons.
 
-Standard library only. Uses target/bin/run of the repository that this file stands in, or the program that the
+Standard library only. Uses crates/run/out/run of the repository that this file stands in, or the program that the
 environment variable ROVERIVET_RUN names. A program other than the proved one, and one that is older than its
 sources, is named on standard error.
 """
@@ -21,7 +21,6 @@ sources, is named on standard error.
 import os
 import re
 import select
-import shutil
 import struct
 import subprocess
 import sys
@@ -310,7 +309,14 @@ def impossible(piece, answer):
 # ---- the program
 
 HERE = Path(__file__).resolve().parent.parent.parent
-PROGRAM = HERE / 'target' / 'bin' / 'run'
+
+
+def built(name):
+    """Where rt leaves a program that it proved and built."""
+    return HERE / 'crates' / name / 'out' / name
+
+
+PROGRAM = built('run')
 CHECKED = PROGRAM.parent / 'run.checked'  # touched when the sources were last found proved
 SOURCES = ('src', 'specs', 'proofs')
 
@@ -367,42 +373,27 @@ def _name_program():
     if other():
         _say_once(f'the answers are those of {other()} (ROVERIVET_RUN), and not of the proved program')
     elif not assured and not is_fresh():
-        _say_once('target/bin/run is older than its sources, so it is not what they prove: ./roverivet build')
+        _say_once('crates/run/out/run is older than its sources, so it is not what they prove: ./roverivet build')
 
 
 def command():
-    """The words that start the program: ROVERIVET_RUN's, or target/bin/run under its toolchain's loader."""
+    """The words that start the program: ROVERIVET_RUN's, or crates/run/out/run."""
     named = os.environ.get('ROVERIVET_RUN')
     if named:
         if not os.access(named, os.X_OK) or os.path.isdir(named):
             raise Missing(f'ROVERIVET_RUN names {named}, which is no program')
         return [os.path.abspath(named)]
     if not os.access(PROGRAM, os.X_OK):
-        raise Missing('the proved program target/bin/run is not built: ./roverivet build')
-    return loader() + [str(PROGRAM)]
+        raise Missing('the proved program crates/run/out/run is not built: ./roverivet build')
+    return starting(PROGRAM)
 
 
-def loader():
-    """What a program of the toolchain is started through: emulator where needed, loader, C library.
-
-    They stand in the folder of the toolchain that `rt` belongs to; RATTLE_HOME names another. Without
-    one an x86-64 machine starts the program by itself.
-    """
-    machine, rt = os.uname().machine, shutil.which('rt')
-    home = os.environ.get('RATTLE_HOME') or (rt and Path(os.path.realpath(rt)).parents[1])
-    if home:
-        tools = Path(home) / 'on' / machine / 'toolchain'
-        start, emulator = tools / 'lib' / 'ld-linux-x86-64.so.2', tools / 'bin' / 'qemu-x86_64'
-        if start.exists():
-            under = [str(emulator)] if os.access(emulator, os.X_OK) else []
-            return under + [str(start), '--library-path', str(tools / 'lib')]
-    if machine == 'x86_64':
-        return []
-    raise Missing(f'programs are for x86-64, this machine is {machine}, and there is no rt on the path with an emulator')
-
-
-def _environment():
-    return {name: value for name, value in os.environ.items() if not name.startswith('QEMU_')}
+def starting(path):
+    """The words that start a program of the toolchain, which compiles for x86-64 alone."""
+    machine = os.uname().machine
+    if machine != 'x86_64':
+        raise Missing(f'programs are for x86-64, and this machine is {machine}')
+    return [str(path)]
 
 
 # ---- power-up
@@ -477,10 +468,9 @@ def launch(start=None, **pipes):
     """Starts the program as a process; `pipes` go to subprocess.Popen."""
     words, file = _start_words(start)
     try:
-        starting = command()
+        begun = command()
         _name_program()
-        return subprocess.Popen(starting + words, env=_environment(), bufsize=0,
-                                pass_fds=[file.fileno()] if file else (), **pipes)
+        return subprocess.Popen(begun + words, bufsize=0, pass_fds=[file.fileno()] if file else (), **pipes)
     finally:
         if file:
             file.close()

@@ -2,18 +2,15 @@
 
 import functools
 import hashlib
-import re
 import shutil
 import subprocess
 from pathlib import Path
 
 import roverivet
-from roverivet import CHECKED, HERE, PROGRAM
+from roverivet import HERE, PROGRAM, SOURCES
 
 RULES = 'document 01'
 REQUESTS = ('Q-2', 'Q-4', 'Q-6', 'Q-9', 'Q-14')  # the change requests that have landed, as 'Q-2': each landing adds its own
-SAID = HERE / 'target' / 'log' / 'run.say'  # what the checker printed when it proved the program
-PROVED = re.compile(r'^logic=proved .*\bsum=([0-9a-f]+).*$', re.MULTILINE)
 
 
 def version():
@@ -30,7 +27,7 @@ def lines():
     yield f'rules: {RULES}'
     yield f'change requests: {", ".join(REQUESTS) or "none"}'
     yield f'commit: {all_of_it["commit"]}{", with changes that are not committed" if all_of_it["changed"] else ""}'
-    yield f'proofs: {all_of_it["sum"] and "sum " + all_of_it["sum"] or "not known, there is no line of the checker here"}'
+    yield f'proofs: {all_of_it["sum"] and "sum " + all_of_it["sum"] or "not known, there are no crates here"}'
     yield f'toolchain: {all_of_it["toolchain"]}'
     yield f'program: {all_of_it["program"]}, {_state(all_of_it)}'
 
@@ -42,19 +39,15 @@ def _state(all_of_it):
     return f'sha256 {all_of_it["sha256"][:16]}, {told}'
 
 
+@functools.cache
 def proof_sum():
-    """The sum that the checker printed for the proofs of the program, or None."""
-    for path in (SAID, CHECKED):
-        found = PROVED.findall(path.read_text(errors='replace')) if path.exists() else []
-        if found:
-            return found[-1]
-    return None
-
-
-def proof_line():
-    """The line in which it printed it, or nothing."""
-    found = PROVED.search(SAID.read_text(errors='replace')) if SAID.exists() else None
-    return found.group() if found else ''
+    """The sum of all that is proved, or None: of the lines of `sha256sum`, by path, for crates.txt and the crates' code, definitions and proofs."""
+    files = [path for name in SOURCES for path in HERE.glob(f'crates/*/{name}/**/*') if path.is_file()]
+    if not files:
+        return None
+    names = sorted(str(path.relative_to(HERE)) for path in (*files, HERE / 'crates.txt') if path.is_file())
+    lines = (f'{_sha256(HERE / name)}  {name}\n' for name in names)
+    return hashlib.sha256(''.join(lines).encode()).hexdigest()[:16]
 
 
 @functools.cache
