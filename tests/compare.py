@@ -3,7 +3,7 @@
 
     compare.py [PROGRAM] [--traces N] [--records N] [--first SEED] [--without-start]
 
-PROGRAM is target/bin/run unless named; the word 'model' tries the script on the model itself. Besides equal
+PROGRAM is crates/run/out/run unless named; the word 'model' tries the script on the model itself. Besides equal
 lines it asks that the traces reach everything in the model's list. A trace that fails is kept in target/compare/.
 """
 
@@ -305,7 +305,7 @@ class Comparison:
 
 def main():
     parser = argparse.ArgumentParser(description='Compares a program with the model of document 01.')
-    parser.add_argument('program', nargs='?', default=str(program.PROVED), help="a path, or 'model' (default: target/bin/run)")
+    parser.add_argument('program', nargs='?', default=str(program.PROVED), help="a path, or 'model' (default: crates/run/out/run)")
     parser.add_argument('--traces', type=int, default=800, help='how many seeds (default 800)')
     parser.add_argument('--records', type=int, default=3500, help='about how many records a trace (default 3500)')
     parser.add_argument('--first', type=int, default=0, help='the first seed (default 0)')

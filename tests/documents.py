@@ -8,13 +8,14 @@ In docs/MAP.md, docs/PASS.md and docs/RULES.md whatever stands in backquotes is 
 
     record/specs/Record: place, kinds     definitions, theorems, functions or types in a file of a crate
     record/specs/Record                   such a file
+    record/proofs/read_record/Proof       the proof of a function, in files of that folder or found by the checker itself
     record/must-fail/order_2_and_1        an edit that the check must refuse
     tests/planted: two_are_one, m_stays   wrong rules that tests/rules.py plants
     traces/sample                         a trace of traces/LIST
     tests/compare.py                      any file or folder, from the top
 
-The notes in docs/changes/ are read in the same way, but for two things. A name alone, such as kindNumber or
-Query::Mjlp, has to occur in some crate. And what a table has in a column headed 'before' is not looked up.
+The notes in docs/changes/ are read in the same way, but for two things. A name alone, such as kind_number or
+Query::Mjlp, has to occur in some crate, or to be one. And what a table has in a column headed 'before' is not looked up.
 """
 
 import collections
@@ -115,6 +116,10 @@ def missing(name):
     found = IN_CRATE.fullmatch(name)
     if found:
         crate, folder, file, words = found.groups()
+        *_, function, last = ('', *file.split('/'))
+        if (folder, last, words) == ('proofs', 'Proof', None):
+            code = (TOP / 'crates' / crate / 'src').rglob('*.rt')
+            return None if any(re.search(rf'\bfn {function}\b', path.read_text()) for path in code) else f'crates/{crate} has no function {function}'
         path = TOP / 'crates' / crate / folder / (file + ('.rt' if folder == 'src' else '.antt'))
         if not path.is_file():
             return f'there is no {shown(path)}'
@@ -148,7 +153,7 @@ def missing_now(name):
     """Why a name in a note names nothing, or None."""
     if not ALONE.fullmatch(name) or (TOP / name).exists():
         return missing(name)
-    absent = [word for word in name.split('::') if word not in written()]
+    absent = [word for word in name.split('::') if word not in written() and not (TOP / 'crates' / word).is_dir()]
     return f'no crate has {", ".join(absent)}' if absent else None
 
 
@@ -290,8 +295,7 @@ def functions():
 
 
 def is_equation(contract):
-    told = re.findall(r'ensures \{ λ (\w+)\. ⌜ (.*) ⌝ \}', contract)
-    return len(told) == 1 and told[0][1].startswith(f'{told[0][0]} ≡ ')
+    return re.findall(r'\bensures\b[^{]*\{\s*(result ≡ )?', contract) == ['result ≡ ']
 
 
 def is_other(contract):
@@ -438,7 +442,7 @@ def outputs(checks, told):
 
 def files():
     for folder, names, leaves in os.walk(TOP):
-        names[:] = [name for name in names if name not in ('target', '.git', '__pycache__')]
+        names[:] = [name for name in names if name not in ('target', 'out', '.git', '__pycache__')]
         yield from (TOP / folder / leaf for leaf in leaves)
 
 

@@ -61,11 +61,11 @@ def output(words, data, start=None):
 
 
 def exporting(*words):
-    return [*roverivet.loader(), str(export.EXPORT), *words]
+    return [*roverivet.starting(export.EXPORT), *words]
 
 
 def plain(words):
-    return [*roverivet.loader(), str(roverivet.PROGRAM)] if words == 'run' else [str(program.model())]
+    return roverivet.starting(roverivet.PROGRAM) if words == 'run' else [str(program.model())]
 
 
 # ---- what is expected

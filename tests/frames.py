@@ -2,7 +2,7 @@
 """Holds the stack that a burst takes to the figures below, by the code of the built programs.
 
     tests/frames.py                    the figures, and the reader by itself
-    tests/frames.py --tell [PROGRAM]   what each function of a program takes, the deepest first; target/bin/run, or a path or name
+    tests/frames.py --tell [PROGRAM]   what each function of a program takes, the deepest first; run, or another program's name, or a path
 
 A frame is all that a function holds of the stack: its return address, what it pushes, and what it takes. A depth goes
 from the entry of a function down, along the calls that hold most. What the C library takes below a call of it is not
@@ -17,19 +17,19 @@ from collections import namedtuple
 from pathlib import Path
 
 from checks import Checks, TOP
+import roverivet
 import stack
 
-BUILT = TOP / 'target' / 'bin'
 BUFFERS = 2 * 65_536
 
 # In bytes: from a function down to the deepest, each function with what it holds there. The figure is the sum. To set one anew, put the path here that
 # the test prints. With `beside` the first function's frame alone is held, without so many bytes of buffers.
 Figure = namedtuple('Figure', 'what program path beside', defaults=(None,))
 FIGURES = [
-    Figure('the frame that the burst is compiled into, beside its two buffers', 'run', 'run::run_from 6,960', BUFFERS),
-    Figure('the step by itself', 'one_step', 'himib::step 1,632 > access::accept 240'),
-    Figure("the repeater's burst by itself", 'every_command', 'repeater::Repeater::burst 208'),
-    Figure('the program', 'run', 'main 17,360 > run::run_from 138,032 > access::accept 240'),
+    Figure('the frame that the burst is compiled into, beside its two buffers', 'run', 'run::run_from 5,408', BUFFERS),
+    Figure('the step by itself', 'one_step', 'himib::step 3,072 > access::accept 336'),
+    Figure("the repeater's burst by itself", 'every_command', 'repeater::Repeater::burst 368'),
+    Figure('the program', 'run', 'run::main+start 19,136 > run::run_from 136,480 > std::io::stdio::StdoutWrite::write_all 128 > std_io::io::error::Error::from_bytes 592'),
 ]
 SLACK = 10  # per cent that a figure may be above what is found before the test says so
 
@@ -84,7 +84,7 @@ def hold(checks):
     """The figures, against the programs that are built."""
     for figure in FIGURES:
         try:
-            fine, lines = judged(figure, stack.program(BUILT / figure.program))
+            fine, lines = judged(figure, stack.program(roverivet.built(figure.program)))
         except stack.Unread as error:
             checks.check(False, f'{figure.what}: it cannot be told', str(error), 'frames.py --tell PROGRAM lists the functions that a program has')
             continue
@@ -103,6 +103,7 @@ SHEET = [
     ('a push for alignment', '50 59 c3', 16),
     ('a frame taken and given back as addresses', '488d6424e8 488d642418 c3', 8 + 24),
     ('three pages probed by a loop, and more', '4989e3 4981eb00300000 4881ec00100000 48c7042400000000 4c39dc 75ec 4881ec780b0000 4881c4783b0000 c3', 8 + 0x3b78),
+    ('four steps of 3,072 bytes probed by a loop, and more', '4989e3 4981eb00300000 4881ec000c0000 48c7042400000000 4c39dc 75ec 4881ec780b0000 4881c4783b0000 c3', 8 + 0x3b78),
     ('the same, by the other form', '4c8d9c2400d0ffff 4881ec00100000 48c7042400000000 4c39dc 75ec 4883ec08 4881c408300000 c3', 8 + 0x3008),
     ('two pages probed one by one', '4881ec00100000 48c7042400000000 4881ec00100000 48c7042400000000 4881c400200000 c3', 8 + 0x2000),
     ('pushes behind a test, and two ways out', '4885ff 740a 53 4883ec20 4883c420 5b c3', 8 + 8 + 32),
@@ -216,7 +217,7 @@ def enlarged(data, function, more):
         found.append(stack.instruction(function.code, at))
         at += found[-1].size
     moves = [i for i in found if i.op in stack.BY_NUMBER and i.mod == 3 and i.rm == stack.RSP]
-    takes = [i for i in moves if i.reg == stack.SUB and i.value not in (-128, 4096)][:1]
+    takes = [i for i in moves if i.reg == stack.SUB and i.value not in (-128, 3072, 4096)][:1]
     gives = [i for i in moves if i.reg == stack.ADD]
     gives = [i for i in gives if i.value == max(each.value for each in gives)]
     for i in takes + gives:
@@ -234,10 +235,10 @@ def copies(checks, folder):
     for figure in FIGURES:
         copy = folder / figure.program
         try:
-            program = stack.program(BUILT / figure.program)
+            program = stack.program(roverivet.built(figure.program))
             path = found_for(figure, program)
             name, held = max(path, key=lambda each: each[1])
-            copy.write_bytes(enlarged((BUILT / figure.program).read_bytes(), program.functions[program.called(name)], 8) or b'')
+            copy.write_bytes(enlarged(roverivet.built(figure.program).read_bytes(), program.functions[program.called(name)], 8) or b'')
             fine, lines = judged(figure._replace(path=told(path)), stack.program(copy))
         except stack.Unread:
             continue  # no such copy can be made; what cannot be read of the program itself is told by hold
@@ -274,7 +275,7 @@ def main(words):
     if words[:1] == ['--tell'] and len(words) < 3:
         try:
             named = Path(*words[1:] or ['run'])
-            tell(named if named.is_file() else BUILT / named)
+            tell(named if named.is_file() else roverivet.built(named.name))
         except stack.Unread as error:
             sys.exit(f'frames.py: {error}')
         return 0

@@ -15,8 +15,10 @@ import sys
 import program
 from checks import Checks, TOP
 
+import roverivet
+
 CRATE = TOP / 'crates' / 'octet_answers'
-BUILT = TOP / 'target' / 'bin' / 'octet_answers'
+BUILT = roverivet.built('octet_answers')
 END = 1 << 32
 AT_ONCE = 4096  # pairs that the program reads
 MOST = 2829359

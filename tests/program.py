@@ -1,7 +1,6 @@
 """How to start a program on this machine, and how to build the model."""
 
 import os
-import platform
 import shutil
 import subprocess
 import sys
@@ -16,28 +15,19 @@ PROVED = roverivet.PROGRAM
 SOURCE = ROOT / 'tests' / 'model' / 'model.rs'
 BUILT = ROOT / 'target' / 'model'
 
-ELF_X86_64 = 62
 
 
 def give_up(reason):
     sys.exit(f'{Path(sys.argv[0]).name}: {reason}')
 
 
-def is_emulated(path):
-    """The toolchain compiles for x86-64 alone; other machines need its emulator."""
-    with open(path, 'rb') as file:
-        head = file.read(20)
-    x86 = head[:4] == b'\x7fELF' and int.from_bytes(head[18:20], 'little') == ELF_X86_64
-    return x86 and platform.machine() != 'x86_64'
-
-
 def command(path):
-    """The words that start the program at this path, with the client's loader in front where it must be emulated."""
+    """The words that start the program at this path."""
     path = Path(path).resolve()
     if not path.is_file():
         give_up(f'there is no program {path}; prove and build it first, or name another one')
     try:
-        return [*(roverivet.loader() if is_emulated(path) else []), str(path)]
+        return roverivet.starting(path) if path.is_relative_to(ROOT / 'crates') else [str(path)]
     except roverivet.Missing as error:
         give_up(error)
 

@@ -6,20 +6,19 @@
     tests/rules.py --texts          only look whether each text to be replaced is there once (a second)
     tests/rules.py --page LOG..     writes docs/RULES.md from what such runs printed: every rule has to be in them
 
-The repository is copied to a folder beside the system's temporary files, with what target/ has, so that only what a
-rule touches is checked again: first the lowest crate that it touches, then those above, until one refuses. A rule
+The repository is copied to a folder beside the system's temporary files, with what the crates' out/ has, so that only what a
+rule touches is checked again, by `rt check` in the crate's folder: first the lowest crate that it touches, then those above, until one refuses. A rule
 passes if a computed table or a promise is among what refuses it: TABLES below names their files. It fails if every
 crate is proved with it, or if only laws of the definitions and functions' own proofs refuse it: those cite the
 definition, so they may say no more than that the text of a proof is stale.
 
 Besides it is told how many such places refused it as well; where there are none, definition and code still agree.
-It runs for about half an hour, beside the gate. The last line is 'N passed, M failed'.
+It runs for hours, beside the gate. The last line is 'N passed, M failed'.
 """
 
 import argparse
 import collections
 import datetime
-import os
 import re
 import shutil
 import subprocess
@@ -108,11 +107,12 @@ def declared(path, line):
 
 def check(folder, crate):
     """(proved, places of errors, what was printed)."""
-    done = subprocess.run(['rt', 'dev', crate], cwd=folder, stdout=subprocess.PIPE, stderr=subprocess.STDOUT, env={**os.environ, 'RT_CUT': '0'}, text=True)
+    here = folder / 'crates' / crate
+    done = subprocess.run(['rt', 'check'], cwd=here, stdin=subprocess.DEVNULL, stdout=subprocess.PIPE, stderr=subprocess.STDOUT, text=True)
     places = []
     for found in ERROR.finditer(done.stdout):
-        path = Path(found['path'])
-        parts = (path.relative_to(folder / 'crates').parts if path.is_relative_to(folder / 'crates') else (crate, *path.parts))
+        path = here / found['path']
+        parts = path.relative_to(folder / 'crates').parts if path.is_relative_to(folder / 'crates') else (crate, *path.parts)
         name = declared(path, int(found['line'])) if path.is_file() and path.suffix == '.antt' else '?'
         places.append(Place(parts[0], '/'.join(parts[1:]), int(found['line']), name, found['text']))
     return done.returncode == 0, places, done.stdout

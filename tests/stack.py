@@ -68,10 +68,10 @@ BY_NUMBER, ADD, AND, SUB = (0x81, 0x83), 0, 4, 5  # the operation stands where o
 POINTED, POINTED_JUMP, POINTED_PUSH = 0xff, 4, 6
 CALL, JUMP, BRANCH, RETURNS, STOPS, PADDING = 0xe8, ops('e9 eb'), ops('70-7f 0f80-0f8f'), 0xc3, ops('0f0b f4 cc'), ops('90 0f1f')
 
-# A frame of many pages is probed on the way down: r11 is where the stack pointer has to come to, in one of two forms, and a loop takes it there page by
-# page: sub $0x1000,%rsp; movq $0,(%rsp); cmp %r11,%rsp; jne. All of it counts as one instruction.
+# A large frame is probed on the way down: r11 is where the stack pointer has to come to, in one of two forms, and a loop takes it there step by step, a
+# page at a time or, with today's compiler, 3,072 bytes: sub $0xc00,%rsp; movq $0,(%rsp); cmp %r11,%rsp; jne. All of it counts as one instruction.
 PROBED = re.compile(rb'(?:\x49\x89\xe3\x49\x81\xeb(?P<less>.{4})|\x4c\x8d\x9c\x24(?P<more>.{4}))'
-                    rb'\x48\x81\xec\x00\x10\x00\x00\x48\xc7\x04\x24\x00\x00\x00\x00\x4c\x39\xdc\x75\xec', re.DOTALL)
+                    rb'\x48\x81\xec\x00[\x0c\x10]\x00\x00\x48\xc7\x04\x24\x00\x00\x00\x00\x4c\x39\xdc\x75\xec', re.DOTALL)
 
 
 def number(data):

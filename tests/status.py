@@ -60,14 +60,14 @@ class Table:
         """A verb by a copy of ./roverivet that has nothing to build with, and this for the program of its name if it is not empty."""
         folder = self.folder / 'copied'
         shutil.rmtree(folder, ignore_errors=True)
-        (folder / 'repository' / 'target' / 'bin').mkdir(parents=True)
+        built = folder / 'repository' / 'crates' / verb / 'out' / verb
+        built.parent.mkdir(parents=True)
         building.make(folder)
         (folder / 'repository' / 'crates.txt').unlink()
         if source:
-            (folder / 'repository' / 'target' / 'bin' / verb).write_text(source)
-            (folder / 'repository' / 'target' / 'bin' / verb).chmod(0o755)
-        return subprocess.run([sys.executable, '-B', str(folder / 'repository' / 'roverivet'), verb], input=data, capture_output=True, timeout=60,
-                              env={**os.environ, 'RATTLE_HOME': str(folder / 'kit')})
+            built.write_text(source)
+            built.chmod(0o755)
+        return subprocess.run([sys.executable, '-B', str(folder / 'repository' / 'roverivet'), verb], input=data, capture_output=True, timeout=60)
 
 
 def does(table, status, verb):

@@ -8,6 +8,7 @@ asked questions after each record (tools/watch.py), and at some places of a trac
 change register, of C, of all counters and of both totals.
 """
 
+import os
 import random
 import re
 import subprocess
@@ -54,7 +55,7 @@ def output(path, data, start, *words):
     """(lines, what it said, status) of a program."""
     more, file = roverivet._start_words(start)
     try:
-        ran = subprocess.run([*roverivet.loader(), str(path), *more, *words], input=data, stdout=subprocess.PIPE,
+        ran = subprocess.run([*roverivet.starting(path), *more, *words], input=data, stdout=subprocess.PIPE,
                              stderr=subprocess.PIPE, timeout=300, pass_fds=[file.fileno()] if file else ())
     finally:
         if file:
@@ -131,6 +132,10 @@ def used_badly(checks):
             path.write_bytes(generate.limited(None, number))
             due = ([], b'tell: short event limit %d is outside 75 to 81 (refused 13)\n' % number, 0)
             checks.equal((output(telling.TELL, tick, None, str(path)), output(telling.TELL, b'', None, str(path))), (due, due), f'limit {number}')
+        odd = Path(folder) / os.fsdecode(b'\xff.start')  # the library's names of files are text
+        odd.write_bytes(generate.limited(None, 78))
+        due = ([], b'tell: the start file cannot be opened: invalid filename\n', 0)
+        checks.equal(output(telling.TELL, tick, None, str(odd)), due, 'a start file whose name is not UTF-8')
     lines, said, _ = output(telling.TELL, tick, None, str(TOP / 'no such file'))
     checks.check(not lines and said.startswith(b'tell: the start file cannot be opened'), 'no start file', said)
     piece = output(telling.TELL, tick + tick[:31], None)[0]
@@ -154,7 +159,7 @@ def in_pieces(checks):
     for seed in SEEDS[:4]:
         data = generate.trace(seed, RECORDS)
         whole = output(telling.TELL, data, None)[0]
-        cut = compare.run([*roverivet.loader(), str(telling.TELL)], compare.pieces(data, seed))
+        cut = compare.run(roverivet.starting(telling.TELL), compare.pieces(data, seed))
         checks.check(cut.lines.split(b'\n')[:-1] == whole, f'seed {seed}: in pieces')
 
 

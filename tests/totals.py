@@ -73,7 +73,7 @@ def spelt(readings):
 
 
 def program_words(*words):
-    return [*roverivet.loader(), str(totals.TOTALS), *words]
+    return [*roverivet.starting(totals.TOTALS), *words]
 
 
 def model_words():

@@ -1,5 +1,5 @@
 #!/usr/bin/env -S python3 -B
-"""What ./roverivet --version says: rules, commit, the checker's sum, toolchain and program, with git and without."""
+"""What ./roverivet --version says: rules, commit, the sum of what is proved, toolchain and program, with git and without."""
 
 import os
 import re
@@ -12,6 +12,7 @@ from pathlib import Path
 from checks import Checks, TOP, need_program, roverivet_command
 import liars
 
+import roverivet
 import roverivet_version
 
 NAMES = ['rules', 'change requests', 'commit', 'proofs', 'toolchain', 'program']
@@ -35,11 +36,11 @@ def here(checks):
     checks.equal((found['rules'], found['change requests']), ('document 01', ', '.join(roverivet_version.REQUESTS) or 'none'), 'the rules that are in')
     commit = printed('git', 'rev-parse', 'HEAD') if (TOP / '.git').exists() and shutil.which('git') else ''
     checks.check(found['commit'].split(',')[0] == commit or not commit and found['commit'].startswith('not known, '), 'the commit', found['commit'])
-    said = (TOP / 'target' / 'log' / 'run.say').read_text()
-    checks.equal(found['proofs'], 'sum ' + re.findall(r'^logic=proved .* sum=(\w+)', said, re.MULTILINE)[-1], 'the sum that the checker printed')
+    summed = printed('sh', '-c', 'find crates.txt crates/*/src crates/*/specs crates/*/proofs -type f 2>/dev/null | LC_ALL=C sort | xargs -d "\\n" sha256sum | sha256sum')
+    checks.equal(found['proofs'], f'sum {summed[:16]}', 'the sum of what is proved')
     checks.equal(found['toolchain'], printed('rt', 'version').split('\n')[0], 'the toolchain')
-    checks.check(re.fullmatch(r'target/bin/run, sha256 [0-9a-f]{16}, proved', found['program']), 'the program', found['program'])
-    whole = printed('sha256sum', str(TOP / 'target' / 'bin' / 'run'))
+    checks.check(re.fullmatch(r'crates/run/out/run, sha256 [0-9a-f]{16}, proved', found['program']), 'the program', found['program'])
+    whole = printed('sha256sum', str(roverivet.PROGRAM))
     checks.check(whole.startswith(found['program'].split()[2].rstrip(',')), 'its hash', whole)
 
 
@@ -58,7 +59,7 @@ def elsewhere(checks, folder):
     found, status, _ = version(copy, PATH=without('git'))
     checks.equal((found['commit'], status), ('not known, there is no git on the path', 0), 'without git')
     checks.equal((found['proofs'], found['program']),
-                 ('not known, there is no line of the checker here', 'target/bin/run, which is not there'), 'not built')
+                 ('not known, there are no crates here', 'crates/run/out/run, which is not there'), 'not built')
     checks.check(version(copy, PATH=without('rt'))[0]['toolchain'].startswith('no rt on the path, last proved with '), 'without rt')
     if shutil.which('git'):
         checks.equal(version(copy)[0]['commit'], 'not known, this is no clone by git', 'no clone')

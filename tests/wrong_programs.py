@@ -162,13 +162,15 @@ for _ in range(2):
 
 def stale(checks, folder):
     """The Python client says that a program is older than its sources."""
-    for name in ('clients', 'target/bin', 'crates/run/src'):
+    for name in ('clients', 'crates/run/src'):
         shutil.copytree(TOP / name, folder / 'copy' / name)
+    (folder / 'copy' / 'crates' / 'run' / 'out').mkdir()
+    shutil.copy(roverivet.PROGRAM, folder / 'copy' / 'crates' / 'run' / 'out')
     shutil.copy(TOP / 'crates.txt', folder / 'copy')
-    for moment, told in (('new', ''), ('old', 'roverivet: target/bin/run is older than its sources, so it is not what they prove: ./roverivet build\n')):
+    for moment, told in (('new', ''), ('old', 'roverivet: crates/run/out/run is older than its sources, so it is not what they prove: ./roverivet build\n')):
         environment = {key: value for key, value in os.environ.items() if key != 'ROVERIVET_RUN'}
         if moment == 'new':
-            (folder / 'copy' / 'target' / 'bin' / 'run.checked').touch()
+            (folder / 'copy' / 'crates' / 'run' / 'out' / 'run.checked').touch()
         ran = subprocess.run([sys.executable, '-B', '-c', STALE, moment], capture_output=True, text=True, timeout=60,
                              env={**environment, 'PYTHONPATH': str(folder / 'copy' / 'clients' / 'python')})
         checks.equal((ran.returncode, ran.stderr), (0, told), f'the Python client with a program that is {moment}')
