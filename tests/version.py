@@ -59,7 +59,7 @@ def elsewhere(checks, folder):
     found, status, _ = version(copy, PATH=without('git'))
     checks.equal((found['commit'], status), ('not known, there is no git on the path', 0), 'without git')
     checks.equal((found['proofs'], found['program']),
-                 ('not known, there are no crates here', 'crates/run/out/run, which is not there'), 'not built')
+                 ('not known, no program here was proved from what is here', 'crates/run/out/run, which is not there'), 'not built')
     checks.check(version(copy, PATH=without('rt'))[0]['toolchain'].startswith('no rt on the path, last proved with '), 'without rt')
     if shutil.which('git'):
         checks.equal(version(copy)[0]['commit'], 'not known, this is no clone by git', 'no clone')

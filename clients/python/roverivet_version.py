@@ -17,7 +17,7 @@ def version():
     """The whole of it, for a log. `proved` says whether the answers come from the proved program as its sources are now."""
     commit, changed = _commit()
     path, fresh = roverivet.other() or str(PROGRAM), roverivet.is_fresh()
-    return {'rules': RULES, 'requests': list(REQUESTS), 'commit': commit, 'changed': changed, 'sum': proof_sum(), 'toolchain': _toolchain(),
+    return {'rules': RULES, 'requests': list(REQUESTS), 'commit': commit, 'changed': changed, 'sum': proof_sum() if fresh else None, 'toolchain': _toolchain(),
             'program': roverivet.other() or str(PROGRAM.relative_to(HERE)), 'sha256': _sha256(path), 'proved': not roverivet.other() and fresh}
 
 
@@ -27,7 +27,7 @@ def lines():
     yield f'rules: {RULES}'
     yield f'change requests: {", ".join(REQUESTS) or "none"}'
     yield f'commit: {all_of_it["commit"]}{", with changes that are not committed" if all_of_it["changed"] else ""}'
-    yield f'proofs: {all_of_it["sum"] and "sum " + all_of_it["sum"] or "not known, there are no crates here"}'
+    yield f'proofs: {all_of_it["sum"] and "sum " + all_of_it["sum"] or "not known, no program here was proved from what is here"}'
     yield f'toolchain: {all_of_it["toolchain"]}'
     yield f'program: {all_of_it["program"]}, {_state(all_of_it)}'
 
@@ -41,7 +41,7 @@ def _state(all_of_it):
 
 @functools.cache
 def proof_sum():
-    """The sum of all that is proved, or None: of the lines of `sha256sum`, by path, for crates.txt and the crates' code, definitions and proofs."""
+    """The sum of what a fresh program was proved from, or None: of the lines of `sha256sum`, by path, for crates.txt and the crates' code, definitions and proofs."""
     files = [path for name in SOURCES for path in HERE.glob(f'crates/*/{name}/**/*') if path.is_file()]
     if not files:
         return None
