@@ -13,7 +13,7 @@ crate is proved with it, or if only laws of the definitions and functions' own p
 definition, so they may say no more than that the text of a proof is stale.
 
 Besides it is told how many such places refused it as well; where there are none, definition and code still agree.
-It runs for hours, beside the gate. The last line is 'N passed, M failed'.
+It runs for about an hour, beside the gate. The last line is 'N passed, M failed'.
 """
 
 import argparse
