@@ -6,13 +6,12 @@ use mathlib.Core.Path.{◌≡◌, sym, ap, ◌∙◌}
 use mathlib.Core.Bool.{Bool, true, false}
 use native.Mathlib.Omega.{arith}
 use borrow.Author.Tests.{eq-eqb, ne_eqb}
-use Rattle.management.specs.Commands.{command_of}
 use Rattle.host.specs.declared.Host.{Host}
 use Rattle.host.specs.declared.Row.{Row}
 use Rattle.attributes.specs.declared.Nine.{Nine}
 use Rattle.changes.specs.Changes.{bit7}
 use Rattle.chip.specs.declared.Core.{Core}
-use Rattle.access.specs.Access.{is_listed, takes_commands, turned_away, selected_by, read_of, write_of, d_read_of, d_write_of}
+use Rattle.access.specs.Access.{turned_away, selected_by, read_of, d_read_of, d_write_of}
 use Rattle.access.proofs.Sheet
 
 pub bit7_le : (b : Bool) → bit7 b ≤ 128
@@ -48,17 +47,3 @@ module _ (h : Host) (w : Row) (s : w ≡ selected_by h) where
     pub write_barred : (w.size ≡ 0 → ⊥) → w.writable ≡ false → turned_away c h 6 ≡ d_write_of c h b
     unfolding d_write_of
     write_barred e r = rw (ne_eqb (selected_by h).size 0 (some e), rw s at r)
-
-    pub write_strange : (w.size ≡ 0 → ⊥) → w.writable ≡ true → takes_commands w.role ≡ true → is_listed (command_of b) ≡ false
-        → turned_away c h 4 ≡ d_write_of c h b
-    unfolding d_write_of
-    write_strange e r t l = rw (ne_eqb (selected_by h).size 0 (some e), rw s at r, rw s at t, l)
-
-    pub write_command : (w.size ≡ 0 → ⊥) → w.writable ≡ true → takes_commands w.role ≡ true → is_listed (command_of b) ≡ true
-        → write_of w c h b ≡ d_write_of c h b
-    unfolding d_write_of
-    write_command e r t l = rw (s, ne_eqb (selected_by h).size 0 (some e), rw s at r, rw s at t, l)
-
-    pub write_plain : (w.size ≡ 0 → ⊥) → w.writable ≡ true → takes_commands w.role ≡ false → write_of w c h b ≡ d_write_of c h b
-    unfolding d_write_of
-    write_plain e r t = rw (s, ne_eqb (selected_by h).size 0 (some e), rw s at r, rw s at t)

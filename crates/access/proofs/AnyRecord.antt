@@ -3,23 +3,22 @@
 --   above_31         == where P or R is above 31, every D access is turned away with 5, and nothing changes
 --   past_read, past_write == with a byte place past the register's last byte a D access that is accepted does what it does at the first
 use Prim.Native.Nat.{ℕ, ◌≤◌, ◌<◌}
-use mathlib.Core.Path.{◌≡◌, refl, sym, ◌∙◌, ap}
+use mathlib.Core.Path.{◌≡◌, refl, ap}
 use mathlib.Core.Bool.{Bool, true, false, cond, not, true≢false}
-use mathlib.Core.List.{List, [], ◌∷◌}
+use mathlib.Core.List.{[], ◌∷◌}
 use lib.Dec.{eqb}
-use Rattle.ports.specs.Sets.{nobody}
+use Rattle.std.specs.Prelude.{None}
 use Rattle.host.specs.declared.Host.{Host}
 use Rattle.host.specs.declared.Reading.{Reading}
 use Rattle.host.specs.declared.Writing.{Writing}
 use Rattle.host.specs.declared.Row.{Row}
-use Rattle.host.specs.Sequence.{power_up, with_selection, with_sequence, restarted}
+use Rattle.host.specs.Sequence.{restarted}
 use Rattle.host.proofs.Listed as Listed
 use Rattle.host.proofs.AnyRecord.{reads_first, writes_first}
 use Rattle.attributes.specs.declared.Nine.{Nine}
 use Rattle.answer.specs.declared.Answer.TheVariants.{Done, Value}
 use Rattle.chip.specs.declared.Core.{Core}
 use Rattle.access.specs.declared.Acted.{Acted}
-use Rattle.access.specs.declared.Written.{Written}
 use Rattle.access.specs.Access.{strange, turned_away, selected_by, value_of, read_by, written_by, read_of, write_of, d_read_of, d_write_of}
 use Rattle.access.specs.Refusals.{is_refused}
 use Rattle.access.specs.Sheet.{up, counting_ports}
@@ -51,13 +50,13 @@ module _ (c : Core) (h : Host) where
   read_first : (w : Row) (nine : Nine) → w.size ≤ h.place → read_of w c nine h ≡ read_of w c nine (restarted h)
   unfolding read_of
   read_first w nine l =
-      ap (λ (q : Reading). record { core = read_by w.role c; host = q.host; answer = Value q.byte; port = nobody })
+      ap (λ (q : Reading). record { core = read_by w.role c; host = q.host; answer = Value q.byte; port = None })
       (reads_first w.size h (value_of c nine w.register) l)
 
   write_first : (w : Row) (b : ℕ) → w.size ≤ h.place → write_of w c h b ≡ write_of w c (restarted h) b
   unfolding write_of
   write_first w b l =
-      ap (λ (t : Writing). record { core = (written_by w.role b c).core; host = t.host; answer = Done; port = cond t.complete (written_by w.role b c).port nobody })
+      ap (λ (t : Writing). record { core = (written_by w.role b c).core; host = t.host; answer = Done; port = cond t.complete (written_by w.role b c).port None })
       (writes_first w.size h b l)
 
   pub past_read : (nine : Nine) → (selected_by h).size ≤ h.place → is_refused (d_read_of c nine h).answer ≡ false → d_read_of c nine h ≡ d_read_of c nine (restarted h)

@@ -7,7 +7,7 @@ use Prim.Native.Nat.{ℕ}
 use mathlib.Core.Path.{◌≡◌, refl}
 use mathlib.Core.Bool.{Bool, true, false, cond, not}
 use lib.Dec.{eqb}
-use Rattle.ports.specs.Sets.{nobody}
+use Rattle.std.specs.Prelude.{None}
 use Rattle.management.specs.declared.Command.{Command}
 use Rattle.management.specs.declared.Command.TheVariants.{Set, Get, Unlisted}
 use Rattle.management.specs.Commands.{command_of}
@@ -30,7 +30,7 @@ stored row c h b = record {
   core = (written_by row.role b c).core;
   host = (wrote_byte row.size b h).host;
   answer = Done;
-  port = cond (wrote_byte row.size b h).complete (written_by row.role b c).port nobody;
+  port = cond (wrote_byte row.size b h).complete (written_by row.role b c).port None;
 }
 
 module _ (P : Acted → Type 0) (c : Core) (h : Host) (away : (k : ℕ) → P (turned_away c h k)) where
@@ -95,6 +95,6 @@ module _ (c : Core) where
     served_kept ReadC = refl
     served_kept ReadD = read_cases Keeps c h (λ k. refl) nine read_keeps
 
-    pub read_nobody : (d_read_of c nine h).port ≡ nobody
+    pub read_nobody : (d_read_of c nine h).port ≡ None
     unfolding read_of
-    read_nobody = read_cases (λ t. t.port ≡ nobody) c h (λ k. refl) nine refl
+    read_nobody = read_cases (λ t. t.port ≡ None) c h (λ k. refl) nine refl

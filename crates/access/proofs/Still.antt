@@ -3,15 +3,14 @@
 --   read_is_still, write_is_still, select_is_still, access_is_still == the statements
 use Prim.Native.Nat.{ℕ}
 use mathlib.Core.Path.{◌≡◌, refl, sym, ◌∙◌, ap}
-use mathlib.Core.Bool.{true, false, true≢false}
-use mathlib.Core.List.{List, [], ◌∷◌}
+use mathlib.Core.Bool.{true, true≢false}
+use mathlib.Core.List.{[], ◌∷◌}
 use mathlib.Core.Option.{Option, none, some}
 use Rattle.record.specs.declared.Access.TheVariants.{WriteC, WriteD, ReadD}
 use Rattle.record.specs.Refusals.{first_of}
 use Rattle.host.specs.declared.Host.{Host}
 use Rattle.host.proofs.Afresh.{kept_by_a_refusal}
 use Rattle.attributes.specs.Nine.{nothing_counted}
-use Rattle.answer.specs.declared.Answer.{Answer}
 use Rattle.answer.specs.declared.Answer.TheVariants.{Refused}
 use Rattle.answer.specs.Answer.{number_of, outputs_of, byte_of}
 use Rattle.chip.specs.declared.Core.{Core}

@@ -9,8 +9,7 @@
 --   c_read_of, d_read_of, d_write_of == the accesses; 5, 6 and 4 in this order, and then nothing changes
 --   served access ..        == any access
 -- Assumes nothing.
-use Rattle.std.specs.Prelude.{ℕ, ◌+◌, Bool, true, false, cond, not, ◌&&◌, ◌||◌, List, eqb, get_or, set}
-use Rattle.ports.specs.Sets.{nobody}
+use Rattle.std.specs.Prelude.{ℕ, ◌+◌, Bool, true, false, cond, not, ◌&&◌, ◌||◌, List, Some, None, eqb, get_or, set}
 use Rattle.management.specs.declared.Command.{Command}
 use Rattle.management.specs.declared.Command.TheVariants.{Set, Get, Unlisted}
 use Rattle.management.specs.Commands.{command_of}
@@ -94,7 +93,7 @@ strange role b = takes_commands role && not (is_listed (command_of b))
 
 -- a byte that does nothing but what the core shows
 abbrev pub plain : Core → Written
-plain c = record { core = c; port = nobody }
+plain c = record { core = c; port = None }
 
 -- the bytes of an address are kept in the host's record until they are all there
 unfoldable pub written_by : Role → ℕ → Core → Written
@@ -102,30 +101,30 @@ written_by Plain b c = plain c
 written_by (Cleared r) b c = plain c
 written_by (Commands through_g) b c = plain (obeyed through_g (command_of b) c)
 written_by (Enables r) b c = plain (with_enables c (set c.enables r (kept_bits r b)))
-written_by (Address p) b c = record { core = c; port = p }
+written_by (Address p) b c = record { core = c; port = Some p }
 
 abbrev pub done : Core → Host → Acted
-done c h = record { core = c; host = h; answer = Done; port = nobody }
+done c h = record { core = c; host = h; answer = Done; port = None }
 
 abbrev pub turned_away : Core → Host → ℕ → Acted
-turned_away c h k = record { core = c; host = h; answer = Refused k; port = nobody }
+turned_away c h k = record { core = c; host = h; answer = Refused k; port = None }
 
 -- bit 7 interrupt, bit 6 interface error, which the read clears
 unfoldable pub c_read_of : Core → Host → Acted
 c_read_of c h =
-    record { core = with_error c false; host = h; answer = Value (bit7 (pending c.changes c.enables) + cond c.interface_error 64 0); port = nobody }
+    record { core = with_error c false; host = h; answer = Value (bit7 (pending c.changes c.enables) + cond c.interface_error 64 0); port = None }
 
 -- a D read, and a D write, of a register that may be read, and written
 unfoldable pub read_of : Row → Core → Nine → Host → Acted
 read_of row c nine h =
     let q : Reading = read_byte row.size (value_of c nine row.register) h in
-    record { core = read_by row.role c; host = q.host; answer = Value q.byte; port = nobody }
+    record { core = read_by row.role c; host = q.host; answer = Value q.byte; port = None }
 
 unfoldable pub write_of : Row → Core → Host → ℕ → Acted
 write_of row c h b =
     let w : Written = written_by row.role b c in
     let t : Writing = wrote_byte row.size b h in
-    record { core = w.core; host = t.host; answer = Done; port = cond t.complete w.port nobody }
+    record { core = w.core; host = t.host; answer = Done; port = cond t.complete w.port None }
 
 -- the row that the host's record selects
 abbrev pub selected_by : Host → Row

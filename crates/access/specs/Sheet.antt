@@ -9,15 +9,13 @@
 --   address      == the writes of an address
 --   contents     == what registers hold, in bytes and as a number, of a core and of nine ports where no two counters are alike
 -- Assumes nothing.
-use Rattle.std.specs.Prelude.{ℕ, ◌+◌, List, [], ◌∷◌, ◌++◌, replicate}
-use Rattle.ports.specs.Sets.{nobody}
+use Rattle.std.specs.Prelude.{ℕ, ◌+◌, List, [], ◌∷◌, ◌++◌, Option, Some, None, replicate}
 use Rattle.repeater.specs.Reset as Rep
 use Rattle.repeater.specs.Events.{after_inputs}
 use Rattle.repeater.specs.Commands.{reporting}
 use Rattle.record.specs.declared.Access.{Access}
 use Rattle.record.specs.declared.Access.TheVariants.{WriteC, WriteD, ReadC, ReadD}
 use Rattle.host.specs.declared.Host.{Host}
-use Rattle.host.specs.Sequence.{power_up}
 use Rattle.host.specs.declared.Register.{Register}
 use Rattle.host.specs.declared.Register.TheVariants as reg
 use Rattle.attributes.specs.declared.Nine.{Nine}
@@ -33,7 +31,7 @@ unfoldable pub said : Core → Host → List Access → List Answer
 said c h [] = []
 said c h (a ∷ rest) = let t : Acted = served a c nothing_counted h in t.answer ∷ said t.core t.host rest
 
-unfoldable pub ports : Core → Host → List Access → List ℕ
+unfoldable pub ports : Core → Host → List Access → List (Option ℕ)
 ports c h [] = []
 ports c h (a ∷ rest) = let t : Acted = served a c nothing_counted h in t.port ∷ ports t.core t.host rest
 
@@ -147,8 +145,8 @@ barred =
 abbrev pub address : List Access
 address = select 31 14 ++ (WriteD 2 ∷ WriteD 0 ∷ WriteD 0 ∷ WriteD 7 ∷ WriteD 8 ∷ WriteD 9 ∷ [])
 
-abbrev pub completed : List ℕ
-completed = replicate 7 nobody ++ (8 ∷ [])
+abbrev pub completed : List (Option ℕ)
+completed = replicate 7 None ++ (Some 8 ∷ [])
 
 -- Transmit Collisions and Total Octets are far apart, and so are the counters of TP3
 abbrev pub counting : Core

@@ -4,8 +4,7 @@
 --   SelectIsStill == a C write of a byte that selects neither P nor R; its number, 7, is given where the record is read
 --   AccessIsStill == any access
 -- Assumes nothing.
-use Rattle.std.specs.Prelude.{ℕ, ◌≡◌, false}
-use Rattle.ports.specs.Sets.{nobody}
+use Rattle.std.specs.Prelude.{ℕ, ◌≡◌, false, None}
 use Rattle.record.specs.declared.Access as Ask
 use Rattle.record.specs.declared.Access.TheVariants.{WriteC}
 use Rattle.host.specs.declared.Host.{Host}
@@ -20,7 +19,7 @@ use Rattle.access.specs.Access.{d_read_of, d_write_of, served}
 pub record Still (c : Core) (h : Host) (t : Acted) (k : ℕ) : Type 0 where
   pub core : t.core ≡ c
   pub host : t.host ≡ h
-  pub port : t.port ≡ nobody
+  pub port : t.port ≡ None
   pub number : number_of t.answer ≡ k
   pub outputs : outputs_of t.answer ≡ 0
   pub value : byte_of t.answer ≡ 0
@@ -34,7 +33,7 @@ WriteIsStill = (c : Core) (h : Host) (b k : ℕ) → (d_write_of c h b).answer �
 abbrev pub SelectIsStill : Type 0
 SelectIsStill =
     (c : Core) (nine : Nine) (h : Host) (b : ℕ) → selects b ≡ false
-    → ((served (WriteC b) c nine h).core ≡ c) × ((served (WriteC b) c nine h).host ≡ h) × ((served (WriteC b) c nine h).port ≡ nobody)
+    → ((served (WriteC b) c nine h).core ≡ c) × ((served (WriteC b) c nine h).host ≡ h) × ((served (WriteC b) c nine h).port ≡ None)
 
 abbrev pub AccessIsStill : Type 0
 AccessIsStill = (a : Ask.Access) (c : Core) (nine : Nine) (h : Host) (k : ℕ) → (served a c nine h).answer ≡ Refused k → Still c h (served a c nine h) k

@@ -9,14 +9,14 @@
 --   collided_seen, event_seen == so are the ports that collide, and the event that the burst is to each port
 use Prim.Native.Nat.{ℕ, zero, suc, ◌≤◌, ◌<◌}
 use mathlib.Core.Path.{◌≡◌, refl, sym, ap, ◌∙◌}
-use mathlib.Core.Bool.{Bool, true, false, cond, not, ◌&&◌, ◌||◌, and-true, and-false, or-false, true≢false}
+use mathlib.Core.Bool.{Bool, true, false, cond, not, ◌&&◌, ◌||◌, and-true, and-false, or-false}
 use mathlib.Core.List.{List, []}
 use native.Mathlib.Omega.{arith}
-use borrow.Author.Tests.{eq-eqb, ne_eqb, eqb-true, le-leb, le-ltb, leb-true, leb-false}
+use borrow.Author.Tests.{ne_eqb, eqb-true, le-leb, le-ltb, leb-true, leb-false}
 use lib.Dec.{eqb, leb}
 use lib.ListN.{get_or}
 use lib.Count.{ones, count_trailing_zeros}
-use Rattle.ports.specs.Sets.{aui, nobody, has, set_of}
+use Rattle.ports.specs.Sets.{aui, is_at, has, set_of}
 use Rattle.ports.proofs.Sets.{gather_lt, gather_same, has_gather, count_one, only_has}
 use Rattle.history.specs.History.{collided, clean, neither, is_partitioned}
 use Rattle.history.proofs.Past.{partitioned_computed}
@@ -32,7 +32,7 @@ use Rattle.burst.specs.Burst.{heard_of, effect_with, effect_of}
 use Rattle.burst.specs.Clean.{is_jam, is_rep, data_to, clean_at, lasting_at, reconnecting_at}
 use Rattle.port.specs.Standing.{event_of}
 use Rattle.repeater.specs.declared.Repeater.{Repeater}
-use Rattle.repeater.specs.declared.Those.TheVariants.{Transmitting, Listening}
+use Rattle.repeater.specs.Those.{Transmitting, Listening}
 use Rattle.repeater.specs.Door.{port_at, places_of}
 use Rattle.repeater.specs.Hearing.{in_t, in_l, in_h, transmits, listens, hearing_of, meeting_of}
 use Rattle.repeater.specs.Repeater.{alternate_for, met_at, among}
@@ -46,16 +46,10 @@ use Rattle.past.specs.Link.{passes_by}
 use Rattle.past.specs.Bursts.{in_e, none, one, more, signalled, crash, word_by, told_data, jams, out_by, collided_by, clean_by, lasting_by, reconnects_by, met_by}
 use Rattle.past.specs.Partition.{sent_to, struck_in, listened_to, heard_at, all_events, partitioned_by, heard_by}
 use Rattle.pass.proofs.Partition.{standing_test}
+use Rattle.himib.proofs.StepLaws.{eqb_turned}
 use Rattle.alone.specs.Seen.{Settled, Linked, Stood, BurstSeen, burst_seen}
 
 -- HOW MANY ARE HEARD
-
-eqb_turned : (i p : ℕ) → eqb i p ≡ eqb p i
-eqb_turned i p = go (eqb i p) refl
-  where
-    go : (a : Bool) → eqb i p ≡ a → a ≡ eqb p i
-    go true e = sym (eq-eqb p i (sym (eqb-true i p e)))
-    go false e = sym (ne_eqb p i (λ k. absurd (true≢false (sym (eq-eqb i p (sym k)) ∙ e))))
 
 -- the count's three cases, and what each of the tests says there
 data Count (h : ℕ) : Type 0 where
@@ -136,14 +130,14 @@ module _ (b : Burst) (hearing : Hearing) (heard : hearing.heard ≡ heard_of hea
       go (of_more k z o m) =
           ap (λ (f : Effect). f.out) (by_count More k) ∙ gather_same 16 (λ i. has t i) (out_by t h) (λ i l. rw m (sym (and-true (has t i))))
 
-  pub single_told : (i : ℕ) → i < 16 → eqb i effect.single ≡ (one h && has h i)
+  pub single_told : (i : ℕ) → i < 16 → is_at effect.single i ≡ (one h && has h i)
   unfolding effect_with
   single_told i l = go (count h small)
     where
-      go : Count h → eqb i effect.single ≡ (one h && has h i)
-      go (of_none k z o m) = rw (by_count Nothing k, o, ne_eqb i nobody (λ e. omega arith))
+      go : Count h → is_at effect.single i ≡ (one h && has h i)
+      go (of_none k z o m) = rw (by_count Nothing k, o)
       go (of_one p k z o m q) = rw (by_count (One p) k, o, q i)
-      go (of_more k z o m) = rw (by_count More k, o, ne_eqb i nobody (λ e. omega arith))
+      go (of_more k z o m) = rw (by_count More k, o)
 
   pub collision_told : effect.collision ≡ crash b h
   unfolding effect_with

@@ -10,7 +10,8 @@ use native.Mathlib.Omega.{arith}
 use borrow.Author.Tests.{ne_eqb}
 use lib.Dec.{eqb}
 use lib.ListN.{length, get_or}
-use Rattle.ports.specs.Sets.{nobody}
+use Rattle.std.specs.Prelude.{Option, Some, None}
+use Rattle.ports.specs.Sets.{is_at}
 use Rattle.history.specs.History.{Event, neither, cleared, Standing, connected, partitioned, after_event, after_events, is_partitioned}
 use Rattle.history.proofs.Past.{after_append, partitioned_computed}
 use Rattle.management.specs.Commands.{command_of}
@@ -31,7 +32,7 @@ use Rattle.himib.specs.Bursts.{burst_core, noted_on, burst_on}
 use Rattle.himib.specs.Step.{addressed_at}
 use Rattle.himib.specs.Runs.{Point, Given, repeater_at, counter_at, address_at, transmit_collisions, total_octets, limit_at}
 use Rattle.himib.specs.Runs as Runs
-use Rattle.himib.proofs.StepLaws.{burst_consistent, counter_addressed, address_addressed, proper_addressed}
+use Rattle.himib.proofs.StepLaws.{burst_consistent, counter_addressed, eqb_turned, address_addressed, proper_addressed}
 use Rattle.past.specs.Deeds.{Deed, bursts, pulses, ticks, commands, uses, resets, refused, selects_p, selects_r, allows, addresses, asks, reads}
 use Rattle.past.specs.Deeds.{is_reset, if_burst}
 use Rattle.past.specs.Settings.{disabling, commanded, enabled_by}
@@ -173,9 +174,9 @@ module _ (start : Start) (past : List Deed) (p : Point) (counted : Counted start
     }
 
   -- what is no burst, and writes the address of port q, or of nobody
-  module _ (d : Deed) (none : (A : Type 0) (a : A) (f : Burst → List ℕ → A) → if_burst a f d ≡ a) (q : ℕ) (bytes : List ℕ) (six : length bytes ≡ 6)
+  module _ (d : Deed) (none : (A : Type 0) (a : A) (f : Burst → List ℕ → A) → if_burst a f d ≡ a) (q : Option ℕ) (bytes : List ℕ) (six : length bytes ≡ 6)
       (attributes : (next d p).chip.attributes ≡ addressed_at q bytes p.chip.attributes) (kept : (next d p).chip.core.kept ≡ p.chip.core.kept) where
-    still_address : (i : ℕ) → i < 9 → address_at i (next d p) ≡ cond (eqb q i) bytes (address_at i p)
+    still_address : (i : ℕ) → i < 9 → address_at i (next d p) ≡ cond (is_at q i) bytes (address_at i p)
     still_address i l = rw attributes (address_addressed q bytes p.chip.attributes counted.fit i l)
 
     still_six : (t : Bool) (i : ℕ) → i < 9 → length (cond t bytes (address_at i p)) ≡ 6
@@ -190,7 +191,7 @@ module _ (start : Start) (past : List Deed) (p : Point) (counted : Counted start
           no_more _ _ _ _ _ (rw attributes (counter_addressed q bytes p.chip.attributes i r)) (still_credit past d none start.limit start.addresses i r l)
           (counted.counters i r l m);
       addresses = given;
-      six = λ i l. ap length (still_address i l) ∙ still_six (eqb q i) i l;
+      six = λ i l. ap length (still_address i l) ∙ still_six (is_at q i) i l;
       collisions = no_more _ _ _ _ _ (ap (λ (k : Kept). k.transmit_collisions) kept) (none ℕ 0 _) counted.collisions;
       octets = no_more _ _ _ _ _ (ap (λ (k : Kept). k.total_octets) kept) (none ℕ 0 _) counted.octets;
       limit = ap (λ (k : Kept). k.choices.short_limit) kept ∙ counted.limit;
@@ -209,21 +210,21 @@ module _ (start : Start) (past : List Deed) (p : Point) (counted : Counted start
     held = (wrote_byte 6 b p.host).host.bytes
 
     written_address : (i : ℕ) → i < 9
-        → cond (eqb (cond whole k nobody) i) held (address_at i p)
+        → cond (is_at (cond whole (Some k) None) i) held (address_at i p)
         ≡ cond (completes past written i) (last_six (in_a_row (written ∷ past))) (address_by start.addresses past i)
     written_address i l =
         rw (← (whole_seen past p.host k b row size i), ← (counted.addresses i l)) (go whole refl)
       where
         go : (t : Bool) → whole ≡ t
-            → cond (eqb (cond t k nobody) i) held (address_at i p) ≡ cond (eqb k i && t) (last_six (in_a_row (written ∷ past))) (address_at i p)
-        go true e = rw (and-true (eqb k i), bytes_seen past p.host k b row size e)
-        go false e = rw (and-false (eqb k i), ne_eqb nobody i (λ z. omega arith))
+            → cond (is_at (cond t (Some k) None) i) held (address_at i p) ≡ cond (eqb k i && t) (last_six (in_a_row (written ∷ past))) (address_at i p)
+        go true e = rw (eqb_turned i k, and-true (eqb k i), bytes_seen past p.host k b row size e)
+        go false e = rw (and-false (eqb k i))
 
     counted_written : length held ≡ 6 → Counted start (written ∷ past) (next written p)
     unfolding doing used_at address_by frames_at
     counted_written six =
-        counted_still written (λ A a f. refl) (cond whole k nobody) held six refl refl
-        (λ i l. address_addressed (cond whole k nobody) held p.chip.attributes counted.fit i l ∙ written_address i l)
+        counted_still written (λ A a f. refl) (cond whole (Some k) None) held six refl refl
+        (λ i l. address_addressed (cond whole (Some k) None) held p.chip.attributes counted.fit i l ∙ written_address i l)
 
   -- any other deed writes no address
   module _ (row : Rowed past p.host) where
@@ -232,7 +233,7 @@ module _ (start : Start) (past : List Deed) (p : Point) (counted : Counted start
         → ((i : ℕ) → address_by start.addresses (d ∷ past) i ≡ address_by start.addresses past i) → Counted start (d ∷ past) (next d p)
     unfolding addressed_at
     counted_other d none attributes kept same =
-        counted_still d none nobody p.host.bytes row.six attributes kept (λ i l. rw attributes (counted.addresses i l) ∙ sym (same i))
+        counted_still d none None p.host.bytes row.six attributes kept (λ i l. rw attributes (counted.addresses i l) ∙ sym (same i))
 
 -- a read clears change bits at most
 read_kept : (c : Core) (register : Register) → (read_from register c).kept ≡ c.kept

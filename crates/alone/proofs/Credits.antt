@@ -17,8 +17,9 @@ use borrow.Author.Tests.{eq-eqb, ne_eqb, eqb-true, lt-ltb, le-ltb, lt-leb, le-le
 use lib.Dec.{eqb, ltb}
 use lib.Count.{ones, count_trailing_zeros}
 use lib.ListN.{length}
-use Rattle.ports.specs.Sets.{nobody, has, without, Only}
-use Rattle.ports.proofs.Sets.{and_first, and_second, has_without, set_true, gather_lt, count_one}
+use Rattle.std.specs.Prelude.{Option, Some, None}
+use Rattle.ports.specs.Sets.{is_at, has, without, Only}
+use Rattle.ports.proofs.Sets.{and_first, and_second, has_without, set_true, gather_lt, count_one, at_some}
 use Rattle.record.specs.declared.Burst.{Burst}
 use Rattle.repeater.specs.Repeater.{partitioned_of}
 use Rattle.repeater.proofs.Kept.{partitioned_lt}
@@ -26,8 +27,9 @@ use Rattle.attributes.specs.declared.Share.{Share}
 use Rattle.attributes.specs.declared.Due.{Due}
 use Rattle.attributes.specs.OneClass.{Falls}
 use Rattle.attributes.specs.OneClass as fall
-use Rattle.attributes.specs.Credits.{short_to, class_of, class_port, same_address, due_of, share_of, credit_for, frame_at}
+use Rattle.attributes.specs.Credits.{short_to, class_of, class_port, framed, same_address, due_of, share_of, credit_for, frame_at}
 use Rattle.attributes.specs.Credits as Att
+use Rattle.attributes.specs.Nine.{readable_frames}
 use Rattle.attributes.proofs.OneClass.{falls}
 use Rattle.attributes.proofs.NineLaws.{changed_exactly}
 use Rattle.himib.specs.Bursts.{met_by, noted_on}
@@ -234,15 +236,14 @@ module _ (past : List Deed) (p : Point) (b : Burst) (source : List ℕ) (seen : 
   due = due_seen p b source
 
   -- the class goes to the port that is heard alone, and in a collision to none
-  single_seen : (i : ℕ) → i < 9 → eqb i due.single ≡ alone b h i
+  single_seen : (i : ℕ) → i < 9 → is_at due.single i ≡ alone b h i
   unfolding noted_on due_of class_port
   single_seen i l = go (burst_seen (repeater_at p) b).effect.collision refl
     where
       go : (t : Bool) → (burst_seen (repeater_at p) b).effect.collision ≡ t
-          → eqb i (cond t nobody (burst_seen (repeater_at p) b).effect.single) ≡ alone b h i
+          → is_at (cond t None (burst_seen (repeater_at p) b).effect.single) i ≡ alone b h i
       go true e =
-          ne_eqb i nobody (λ z. omega arith)
-          ∙ sym (and-false (one h && has h i))
+          sym (and-false (one h && has h i))
           ∙ ap (λ (t : Bool). one h && has h i && not t) (sym e ∙ seen.collision)
       go false e =
           seen.single i (omega arith)
@@ -258,39 +259,47 @@ module _ (past : List Deed) (p : Point) (b : Burst) (source : List ℕ) (seen : 
   collision_seen = ap if seen.transmit
 
   -- there is such a port exactly if one is heard
-  single_there : ltb (burst_seen (repeater_at p) b).effect.single 9 ≡ one h
+  single_there : framed (burst_seen (repeater_at p) b).effect.single (class_of (limit_at p) b) ≡ (one h && eqb (class_of (limit_at p) b) readable_frames)
   unfolding heard_by heard_at
-  single_there = go (one h) refl
+  single_there = go (burst_seen (repeater_at p) b).effect.single seen.single (one h) refl
     where
-      q : ℕ
-      q = (burst_seen (repeater_at p) b).effect.single
+      k : ℕ
+      k = class_of (limit_at p) b
 
-      some : one h ≡ true → q < 9
-      some e =
+      none : (q : ℕ) (t : Bool) → ltb q 9 ≡ t → ((i : ℕ) → i < 16 → is_at (Some q) i ≡ (one h && has h i)) → one h ≡ false → t ≡ false
+      none q true k s e =
+          let l = ltb-true q 9 k in
+          absurd (true≢false (sym (eq-eqb q q refl) ∙ s q (omega arith) ∙ rw e))
+      none q false k s e = refl
+
+      go : (q : Option ℕ) → ((i : ℕ) → i < 16 → is_at q i ≡ (one h && has h i)) → (t : Bool) → one h ≡ t → framed q k ≡ (one h && eqb k readable_frames)
+      go q s true e =
           let o : Only h (count_trailing_zeros 16 h) = count_one 16 h (gather_lt 16 _) (eqb-true (ones h) 1 e) in
           let l = heard_below past b (count_trailing_zeros 16 h) o.is in
-          let s = eqb-true (count_trailing_zeros 16 h) q (seen.single (count_trailing_zeros 16 h) (omega arith) ∙ rw (e, o.is)) in
-          omega arith
-
-      none : one h ≡ false → (t : Bool) → ltb q 9 ≡ t → t ≡ false
-      none e true k =
-          let l = ltb-true q 9 k in
-          absurd (true≢false (sym (eq-eqb q q refl) ∙ seen.single q (omega arith) ∙ rw e))
-      none e false k = refl
-
-      go : (t : Bool) → one h ≡ t → ltb q 9 ≡ one h
-      go true e = lt-ltb q 9 (some e) ∙ sym e
-      go false e = none e (ltb q 9) refl ∙ sym e
+          let there = at_some q (count_trailing_zeros 16 h) (s (count_trailing_zeros 16 h) (omega arith) ∙ rw (e, o.is)) in
+          rw (there, e, lt-ltb (count_trailing_zeros 16 h) 9 l)
+      go (Some q) s false e = rw (e, none q (ltb q 9) refl s e)
+      go None s false e = rw e
 
   octets_seen : due.octets ≡ octets_by past (bursts b source)
   unfolding noted_on due_of class_port octets_by
   octets_seen =
-      ap₂ (λ (t u : Bool). cond (t && u) b.n 0) (go (burst_seen (repeater_at p) b).effect.collision refl) (class_seen (limit_at p) b measured).0
+      ap (λ (t : Bool). cond t b.n 0)
+      (go (burst_seen (repeater_at p) b).effect.collision refl ∙ ap (λ (t : Bool). (one h && not (crash b h)) && t) (class_seen (limit_at p) b measured).0)
     where
+      k : ℕ
+      k = class_of (limit_at p) b
+
+      away : (a u : Bool) → false ≡ ((a && false) && u)
+      away true u = refl
+      away false u = refl
+
       go : (t : Bool) → (burst_seen (repeater_at p) b).effect.collision ≡ t
-          → ltb (cond t nobody (burst_seen (repeater_at p) b).effect.single) 9 ≡ (one h && not (crash b h))
-      go true e = sym (and-false (one h)) ∙ ap (λ (t : Bool). one h && not t) (sym e ∙ seen.collision)
-      go false e = single_there ∙ sym (and-true (one h)) ∙ ap (λ (t : Bool). one h && not t) (sym e ∙ seen.collision)
+          → framed (cond t None (burst_seen (repeater_at p) b).effect.single) k ≡ ((one h && not (crash b h)) && eqb k readable_frames)
+      go true e = away (one h) (eqb k readable_frames) ∙ ap (λ (t : Bool). (one h && not t) && eqb k readable_frames) (sym e ∙ seen.collision)
+      go false e =
+          single_there ∙ ap (λ (t : Bool). t && eqb k readable_frames) (sym (and-true (one h)))
+          ∙ ap (λ (t : Bool). (one h && not t) && eqb k readable_frames) (sym e ∙ seen.collision)
 
   module _ (start : Start) (addresses : (i : ℕ) → i < 9 → address_at i p ≡ address_by start.addresses past i)
       (sixes : (i : ℕ) → i < 9 → length (address_at i p) ≡ 6) (from : length source ≡ 6) where

@@ -12,7 +12,8 @@ use native.Mathlib.Omega.{arith}
 use borrow.Author.Tests.{ltb-true}
 use lib.Dec.{eqb}
 use lib.ListN.{length}
-use Rattle.ports.specs.Sets.{nobody, port_count}
+use Rattle.std.specs.Prelude.{Option, None}
+use Rattle.ports.specs.Sets.{port_count}
 use Rattle.ports.specs.declared.Quiet.TheVariants.{Pulse, Tick}
 use Rattle.ports.proofs.Sets.{and_second}
 use Rattle.management.specs.declared.Command.{Command}
@@ -81,7 +82,7 @@ module _ (p : Point) where
   h = p.host
 
   -- nobody's address is written
-  nobody_after : (d : Core) (g : Host) (a : Acted) → a.core ≡ d → a.host ≡ g → a.port ≡ nobody
+  nobody_after : (d : Core) (g : Host) (a : Acted) → a.core ≡ d → a.host ≡ g → a.port ≡ None
       → after_access nine a ≡ record { chip = record { core = d; attributes = nine }; host = g; answer = a.answer }
   nobody_after d g a e f k = rw (e, f, k, addressed_nobody g.bytes nine)
 
@@ -121,16 +122,16 @@ module _ (p : Point) where
     core = (written_by role b c).core;
     host = (wrote_byte size b h).host;
     answer = Done;
-    port = cond (wrote_byte size b h).complete (written_by role b c).port nobody;
+    port = cond (wrote_byte size b h).complete (written_by role b c).port None;
   }
 
-  nobody_else : (t : Bool) → cond t nobody nobody ≡ nobody
+  nobody_else : (t : Bool) → cond {A = Option ℕ} t None None ≡ None
   nobody_else true = refl
   nobody_else false = refl
 
   plainly : (d : Core) (size b : ℕ)
       → after_access nine
-      (record { core = d; host = (wrote_byte size b h).host; answer = Done; port = cond (wrote_byte size b h).complete nobody nobody })
+      (record { core = d; host = (wrote_byte size b h).host; answer = Done; port = cond (wrote_byte size b h).complete None None })
       ≡ record { chip = record { core = d; attributes = nine }; host = (wrote_byte size b h).host; answer = Done }
   plainly d size b = rw (nobody_else (wrote_byte size b h).complete, addressed_nobody (wrote_byte size b h).host.bytes nine)
 

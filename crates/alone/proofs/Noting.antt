@@ -20,7 +20,7 @@ use Rattle.ports.proofs.Sets.{has_none, has_and, has_power, same_set}
 use Rattle.ports.proofs.Each.{each_at, set_every}
 use Rattle.record.specs.declared.Burst.{Burst}
 use Rattle.repeater.specs.declared.Repeater.{Repeater}
-use Rattle.repeater.specs.declared.Those.TheVariants as those
+use Rattle.repeater.specs.Those as those
 use Rattle.repeater.specs.Door.{port_at}
 use Rattle.repeater.specs.Repeater.{among, partitioned_of, linked_of}
 use Rattle.repeater.proofs.DoorLaws.{those_has}

@@ -22,7 +22,7 @@ use Rattle.management.specs.declared.Command.TheVariants.{Set, Get, Unlisted}
 use Rattle.management.specs.Commands.{command_of}
 use Rattle.port.proofs.Standing.{stays}
 use Rattle.repeater.specs.declared.Repeater.{Repeater}
-use Rattle.repeater.specs.declared.Those.TheVariants.{Partitioned}
+use Rattle.repeater.specs.Those.{Partitioned}
 use Rattle.repeater.specs.Door.{port_at}
 use Rattle.repeater.specs.Reset.{power_up}
 use Rattle.repeater.specs.Repeater.{among, partitioned_of}

@@ -18,7 +18,7 @@ use Rattle.history.proofs.Past.{struck_exactly}
 use Rattle.record.specs.declared.Burst.{Burst}
 use Rattle.record.specs.declared.Asked.TheVariants as ask
 use Rattle.record.specs.Refusals.{record_of}
-use Rattle.repeater.specs.declared.Those.TheVariants.{Linked, Enabled}
+use Rattle.repeater.specs.Those.{Linked, Enabled}
 use Rattle.repeater.specs.Repeater.{among}
 use Rattle.repeater.proofs.DoorLaws.{those_has}
 use Rattle.chip.specs.declared.Supply.{Supply}

@@ -13,7 +13,7 @@ use native.Mathlib.Omega.{arith}
 use borrow.Author.Tests.{ne_eqb}
 use lib.Dec.{eqb, ltb}
 use lib.Bits.{bit_or, or_lt}
-use Rattle.ports.specs.Sets.{aui, has, gather}
+use Rattle.ports.specs.Sets.{aui, is_at, has, gather}
 use Rattle.ports.proofs.Sets.{has_gather, has_or, gather_lt, is_gather, gather_same}
 use Rattle.management.specs.declared.Status.{Status}
 use Rattle.management.specs.declared.Setting.{Setting}
@@ -29,7 +29,7 @@ use Rattle.port.specs.declared.Change.TheVariants.{Disabling, EnablingTp, Stoppi
 use Rattle.record.specs.declared.Burst.{Burst}
 use Rattle.burst.specs.Marks.{marks_of}
 use Rattle.repeater.specs.declared.Repeater.{Repeater}
-use Rattle.repeater.specs.declared.Those.TheVariants.{Partitioned}
+use Rattle.repeater.specs.Those.{Partitioned}
 use Rattle.repeater.specs.Door.{put_at, each_port}
 use Rattle.repeater.specs.Reset.{power_up}
 use Rattle.repeater.specs.Answers.{answer_of, connected_at}
@@ -155,7 +155,7 @@ commanded_next past g c r Unlisted told l reported = absurd (true≢false (sym l
 -- BURSTS
 
 module _ (past : List Deed) (r : Repeater) (b : Burst) (source : List ℕ) (seen : BurstSeen past r b) where
-  mistimes_seen : (i : ℕ) → i < 16 → (b.rate_error && eqb i (burst_seen r b).effect.single) ≡ mistimes i past (bursts b source)
+  mistimes_seen : (i : ℕ) → i < 16 → (b.rate_error && is_at (burst_seen r b).effect.single i) ≡ mistimes i past (bursts b source)
   unfolding mistimes
   mistimes_seen i h =
       ap (λ (t : Bool). b.rate_error && t) (seen.single i h)

@@ -4,8 +4,7 @@
 --   repeater_by d r == the repeater after it
 --   Proper d       == the bounds of what a deed carries
 -- Assumes nothing.
-use Rattle.std.specs.Prelude.{ℕ, ◌+◌, ◌<◌, ◌≡◌, true, false, cond, length, set}
-use Rattle.ports.specs.Sets.{nobody}
+use Rattle.std.specs.Prelude.{ℕ, ◌+◌, ◌<◌, ◌≡◌, true, false, cond, Some, None, length, set}
 use Rattle.ports.specs.declared.Quiet.TheVariants.{Pulse, Tick}
 use Rattle.management.specs.declared.Command.{Command}
 use Rattle.management.specs.declared.Command.TheVariants.{Set, Get, Unlisted}
@@ -53,7 +52,7 @@ left s h = finished s h
 
 abbrev pub addressing : ℕ → Writing → Chip → Stepped
 addressing i t s =
-    left (record { core = s.core; attributes = addressed_at (cond t.complete i nobody) t.host.bytes s.attributes }) t.host
+    left (record { core = s.core; attributes = addressed_at (cond t.complete (Some i) None) t.host.bytes s.attributes }) t.host
 
 abbrev pub reading : Register → Reading → Chip → Stepped
 reading register q s = record { chip = with_core s (read_from register s.core); host = q.host; answer = Value q.byte }

@@ -8,8 +8,8 @@
 --   Reported past r   == so are the status bits
 --   Counted, Noticed  == so are counters, totals, addresses and the limit of short events; change bits, enables, interface error and G
 -- Assumes nothing.
-use Rattle.std.specs.Prelude.{ℕ, ◌+◌, ◌%◌, ◌^◌, ◌≤◌, ◌<◌, ◌≡◌, ◌&&◌, List, [], eqb, length, get_or}
-use Rattle.ports.specs.Sets.{has, gather, set_of}
+use Rattle.std.specs.Prelude.{ℕ, ◌+◌, ◌%◌, ◌^◌, ◌≤◌, ◌<◌, ◌≡◌, ◌&&◌, List, [], length, get_or}
+use Rattle.ports.specs.Sets.{is_at, has, gather, set_of}
 use Rattle.history.specs.History.{connected, after_events}
 use Rattle.record.specs.declared.Burst.{Burst}
 use Rattle.repeater.specs.declared.Repeater.{Repeater}
@@ -65,7 +65,7 @@ pub record BurstSeen (past : List Deed) (r : Repeater) (b : Burst) : Type 0 wher
   pub h : (burst_seen r b).hearing.h ≡ heard_by past b
   pub word : (burst_seen r b).effect.word ≡ word_by b (heard_by past b)
   pub out : (burst_seen r b).effect.out ≡ set_of (out_by (sent_to past) (heard_by past b))
-  pub single : (i : ℕ) → i < 16 → eqb i (burst_seen r b).effect.single ≡ (one (heard_by past b) && has (heard_by past b) i)
+  pub single : (i : ℕ) → i < 16 → is_at (burst_seen r b).effect.single i ≡ (one (heard_by past b) && has (heard_by past b) i)
   pub collision : (burst_seen r b).effect.collision ≡ crash b (heard_by past b)
   pub transmit : (burst_seen r b).effect.transmit_collision ≡ more (heard_by past b)
 

@@ -1,11 +1,10 @@
 -- Laws of numerals that the functions' proofs cite. Assumes nothing.
 --   decimal_small, decimal_more == a numeral of one digit, and of more
 --   decimal_padded == a number of k + 1 digits, written with zeros in front, has none there
---   decimal_group, decimal_two_groups == the last four digits, and the last eight, split off
+--   three_digits, four_digits == so the numeral of a number of three or four digits is the end of its last four
+--   decimal_group, decimal_two_groups == the last four digits, and the last eight, split off; padded_eight == eight digits are twice four
 --   decimal_length_le, decimal_length_pos == how many digits there are
---   padded_eight, three_digits == digits put together from fewer
---   four_spelt, two_digits_spelt, four_digits_spelt == how the numbers that the code makes spell bytes and digits
-use Prim.Native.Nat.{ℕ, zero, suc, ◌+◌, ◌*◌, ◌-◌, ◌/◌, ◌%◌, ◌^◌, ◌≤◌, ◌<◌}
+use Prim.Native.Nat.{ℕ, zero, suc, ◌*◌, ◌/◌, ◌%◌, ◌^◌, ◌≤◌, ◌<◌}
 use mathlib.Core.Path.{◌≡◌, refl, ap, sym, ◌∙◌}
 use mathlib.Core.Bool.{Bool, true, false}
 use mathlib.Core.List.{List, [], ◌∷◌, ◌++◌, append_assoc}
@@ -13,9 +12,8 @@ use native.Mathlib.Nat.{pow-suc}
 use native.Mathlib.Omega.{arith}
 use borrow.Author.Tests.{lt-ltb, le-ltb, ltb-true, ltb-false}
 use lib.Dec.{ltb}
-use lib.ListN.{length, length-append}
+use lib.ListN.{length, length-append, get_or}
 use Rattle.answer.specs.Numerals.{digit, numeral, decimal}
-use Rattle.spelling.specs.Spelling.{least_first, spelt}
 use Rattle.answer.specs.Put.{padded}
 
 -- what is enough for a numeral gives the same numeral
@@ -73,8 +71,13 @@ decimal_length_pos n = go (ltb n 10) refl
     go true e = rw (decimal_small n (ltb-true n 10 e)) (omega arith)
     go false e = rw (decimal_more n (ltb-false n 10 e), length-append) (omega arith)
 
-same_two : {a b a' b' : ℕ} → a ≡ a' → b ≡ b' → ◌≡◌ {A = List ℕ} (a ∷ b ∷ []) (a' ∷ b' ∷ [])
-same_two p q = cc
+-- the digits of a number of up to four, taken from four with zeros in front
+pub three_digits : {ds : List ℕ} (n : ℕ) → ds ≡ padded 4 n → 100 ≤ n → n < 1000 → get_or ds 1 0 ∷ get_or ds 2 0 ∷ get_or ds 3 0 ∷ [] ≡ decimal n
+three_digits n e h l = rw e (decimal_padded 2 n h l)
+
+pub four_digits : {ds : List ℕ} (n : ℕ) → ds ≡ padded 4 n → 1000 ≤ n → n < 10000
+    → get_or ds 0 0 ∷ get_or ds 1 0 ∷ get_or ds 2 0 ∷ get_or ds 3 0 ∷ [] ≡ decimal n
+four_digits n e h l = rw e (decimal_padded 3 n h l)
 
 same_four : {a b c d a' b' c' d' : ℕ} → a ≡ a' → b ≡ b' → c ≡ c' → d ≡ d' → ◌≡◌ {A = List ℕ} (a ∷ b ∷ c ∷ d ∷ []) (a' ∷ b' ∷ c' ∷ d' ∷ [])
 same_four p q r s = cc
@@ -113,55 +116,3 @@ decimal_two_groups n h =
     ∙ rw (e, f, g) (sym (append_assoc (decimal (n / 10000 / 10000)) (padded 4 (n / 10000 % 10000)) (padded 4 (n % 10000))))
     ∙ ap (λ (l : List ℕ). l ++ padded 4 (n % 10000)) (decimal_group (n / 10000) (omega arith))
     ∙ decimal_group n (omega arith)
-
--- bytes, spelt as one number
-two_spelt : (a b : ℕ) → a < 256 → b < 256 → least_first 2 (a + 256 * b) ≡ a ∷ b ∷ []
-two_spelt a b ha hb = same_two (omega arith) (omega arith)
-
-pub four_spelt : (a b c d : ℕ) → a < 256 → b < 256 → c < 256 → d < 256 → least_first 4 (spelt (a ∷ b ∷ c ∷ d ∷ [])) ≡ a ∷ b ∷ c ∷ d ∷ []
-four_spelt a b c d ha hb hc hd = same_four (omega arith) (omega arith) (omega arith) (omega arith)
-
--- the bytes as the code takes them out of a number
-pub two_least : (w : ℕ) → w % 256 ∷ w / 256 % 256 ∷ [] ≡ least_first 2 w
-two_least w = refl
-
-pub four_least : (w : ℕ) → w % 256 ∷ w / 256 % 256 ∷ w / 65536 % 256 ∷ w / 16777216 % 256 ∷ [] ≡ least_first 4 w
-four_least w = same_four refl refl (omega arith) (omega arith)
-
--- a pair of digits, spelt as one number: t is the first digit, and 256 v - 2559 t is t + 256 (v - 10 t)
-pub two_digits_spelt : (v t : ℕ) → v < 100 → t ≡ v / 10 → least_first 2 (0x3030 + 256 * v - 2559 * t) ≡ padded 2 v
-two_digits_spelt v t h e =
-    let w : 0x3030 + 256 * v - 2559 * t ≡ digit t + 256 * digit (v - 10 * t) = omega arith in
-    let first : t ≡ v / 10 % 10 = omega arith in
-    let second : v - 10 * t ≡ v % 10 = omega arith in
-    ap (least_first 2) w ∙ two_spelt (digit t) (digit (v - 10 * t)) (omega arith) (omega arith) ∙ same_two (ap digit first) (ap digit second)
-
-pub three_digits : (v f : ℕ) → v < 1000 → f ≡ v / 100 → digit f ∷ padded 2 (v - 100 * f) ≡ padded 3 v
-three_digits v f h e =
-    let first : f ≡ v / 10 / 10 % 10 = omega arith in
-    let second : (v - 100 * f) / 10 % 10 ≡ v / 10 % 10 = omega arith in
-    let third : (v - 100 * f) % 10 ≡ v % 10 = omega arith in
-    rw (second, third, first)
-
-last : (v f s u : ℕ) → v ≡ 100 * f + s → u ≡ s / 10 → s - 10 * u ≡ v % 10
-last v f s u e eu = omega arith
-
--- two pairs: f is the first and s the second, t and u are their first digits
-spelt_pairs : (v f s t u : ℕ) → v ≡ 100 * f + s → f < 100 → s < 100 → t ≡ f / 10 → u ≡ s / 10
-    → least_first 4 (0x30303030 + 256 * (f + 65536 * s) - 2559 * (t + 65536 * u)) ≡ padded 4 v
-spelt_pairs v f s t u e hf hs et eu =
-    let w : 0x30303030 + 256 * (f + 65536 * s) - 2559 * (t + 65536 * u) ≡ spelt (digit t ∷ digit (f - 10 * t) ∷ digit u ∷ digit (s - 10 * u) ∷ []) =
-    omega arith in
-    let tenth : v / 10 ≡ 10 * f + u = omega arith in
-    let hundredth : v / 10 / 10 ≡ f = omega arith in
-    let first : t ≡ v / 10 / 10 / 10 % 10 = rw hundredth (omega arith) in
-    let second : f - 10 * t ≡ v / 10 / 10 % 10 = rw hundredth (omega arith) in
-    let third : u ≡ v / 10 % 10 = rw tenth (omega arith) in
-    let fourth : s - 10 * u ≡ v % 10 = last v f s u e eu in
-    ap (least_first 4) w
-    ∙ four_spelt (digit t) (digit (f - 10 * t)) (digit u) (digit (s - 10 * u)) (omega arith) (omega arith) (omega arith) (omega arith)
-    ∙ same_four (ap digit first) (ap digit second) (ap digit third) (ap digit fourth)
-
-pub four_digits_spelt : (v f t u : ℕ) → v < 10000 → f ≡ v / 100 → t ≡ f / 10 → u ≡ (v - 100 * f) / 10
-    → least_first 4 (0x30303030 + 256 * (f + 65536 * (v - 100 * f)) - 2559 * (t + 65536 * u)) ≡ padded 4 v
-four_digits_spelt v f t u h e et eu = spelt_pairs v f (v - 100 * f) t u (omega arith) (omega arith) (omega arith) et eu

@@ -1,8 +1,7 @@
 -- How long lines are. Assumes nothing.
 --   line_length_le, line_length_ge == a line has 5 to 29 bytes, for a record number of 64 bits and a refusal's number of 8
 use Prim.Native.Nat.{ℕ, ◌+◌, ◌^◌, ◌≤◌, ◌<◌}
-use mathlib.Core.Path.{◌≡◌, refl, ap, sym}
-use mathlib.Core.List.{List}
+use mathlib.Core.Path.{◌≡◌, refl}
 use native.Mathlib.Omega.{arith}
 use lib.ListN.{length, length-append}
 use Rattle.burst.specs.declared.Word.{Word}
@@ -11,15 +10,8 @@ use Rattle.answer.specs.declared.Answer.{Answer}
 use Rattle.answer.specs.declared.Answer.TheVariants.{Done, Sent, Value, Refused}
 use Rattle.answer.specs.Answer.{number_of}
 use Rattle.answer.specs.Numerals.{decimal}
-use Rattle.answer.specs.Line.{named, said_of, tail_of, line_of}
-use Rattle.answer.specs.Put.{Put}
+use Rattle.answer.specs.Line.{said_of, tail_of, line_of}
 use Rattle.answer.proofs.Digits.{decimal_length_le, decimal_length_pos}
-use Rattle.answer.proofs.Pieces.{put_as}
-
-pub named_length : (w : Word) → length (named w) ≡ 3
-named_length Nil = refl
-named_length Rep = refl
-named_length Jam = refl
 
 sent_length : (w : Word) (m : ℕ) → length (tail_of (Sent w m)) ≡ 9
 unfolding tail_of said_of
@@ -44,11 +36,6 @@ tail_length_le Done h = omega (arith, done_length)
 tail_length_le (Sent w m) h = omega (arith, sent_length w m)
 tail_length_le (Value b) h = omega (arith, value_length b)
 tail_length_le (Refused k) h = omega (arith, refused_length k, decimal_length_le 2 k (omega arith))
-
--- what `put_tail` shows of a case
-pub tail_put : {old new : List ℕ} {at r : ℕ} {a b : Answer} → b ≡ a → number_of a < 256 → Put old at (tail_of a) new r
-    → Put old at (tail_of b) new r × (r ≤ at + 9)
-tail_put {a = a} e h p = (put_as (sym (ap tail_of e)) p, omega (arith, p.next, tail_length_le a h))
 
 tail_length_ge : (a : Answer) → 4 ≤ length (tail_of a)
 tail_length_ge Done = omega (arith, done_length)

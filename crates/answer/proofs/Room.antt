@@ -1,7 +1,7 @@
 -- Whether there is room for a line, and what follows. Assumes nothing.
 --   room, past_end, short_of_room == the three cases
 --   written, unwritten == what `put_line` shows with room and without
-use Prim.Native.Nat.{ℕ, ◌+◌, ◌-◌, ◌≤◌, ◌<◌}
+use Prim.Native.Nat.{ℕ, ◌+◌, ◌-◌, ◌^◌, ◌≤◌, ◌<◌}
 use mathlib.Core.Path.{◌≡◌, ◌∙◌}
 use mathlib.Core.Bool.{true, false}
 use mathlib.Core.List.{List}
@@ -10,8 +10,10 @@ use borrow.Author.Tests.{le-leb, lt-leb}
 use lib.ListN.{length}
 use lib.Seq.{sets-eq}
 use Rattle.answer.specs.declared.Answer.{Answer}
+use Rattle.answer.specs.Answer.{number_of}
 use Rattle.answer.specs.Line.{line_of}
 use Rattle.answer.specs.Put.{Put, WrittenLine, has_room, laid, after_line, with_line}
+use Rattle.answer.proofs.Lengths.{line_length_le}
 
 pub room : (old : List ℕ) (at : ℕ) → at ≤ length old → 32 ≤ length old - at → has_room old at ≡ true
 unfolding has_room
@@ -25,13 +27,14 @@ pub short_of_room : (old : List ℕ) (at : ℕ) → at ≤ length old → length
 unfolding has_room
 short_of_room old at h k = simp (le-leb _ _ h, lt-leb _ _ k)
 
-pub written : {old new : List ℕ} {at n r : ℕ} {a : Answer} → at ≤ length old → 32 ≤ length old - at → Put old at (line_of n a) new r → r ≤ at + 29
-    → WrittenLine old at n a new r
+pub written : {old mid new : List ℕ} {at n r : ℕ} {a : Answer} → at ≤ length old → 32 ≤ length old - at → n < 2 ^ 64 → number_of a < 256
+    → Put old at (line_of n a) mid r → new ≡ mid → WrittenLine old at n a new r
 unfolding after_line with_line laid
-written {old} {new} {at} {n} {r} {a} h k p s =
+written {old} {mid} {new} {at} {n} {r} {a} h k m l p e =
     let yes : has_room old at ≡ true = room old at h k in
-    let inside : at + length (line_of n a) ≤ length old = omega (arith, p.next) in
-    record { next = rw yes p.next; bytes = rw yes (p.bytes ∙ sets-eq (line_of n a) old at inside); short = s }
+    let short : length (line_of n a) ≤ 29 = line_length_le n a m l in
+    let inside : at + length (line_of n a) ≤ length old = omega arith in
+    record { next = rw yes p.next; bytes = rw yes (e ∙ p.bytes ∙ sets-eq (line_of n a) old at inside); short = omega (arith, p.next) }
 
 pub unwritten : (old : List ℕ) (at n : ℕ) (a : Answer) → has_room old at ≡ false → WrittenLine old at n a old at
 unfolding after_line with_line

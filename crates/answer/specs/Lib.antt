@@ -4,3 +4,4 @@ pub mod Text
 pub mod Numerals
 pub mod Line
 pub mod Put
+pub mod Grown

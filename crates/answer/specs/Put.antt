@@ -6,9 +6,11 @@
 --   after_line, with_line    == the place behind the line, and the buffer with the line; both as they were without room
 --   WrittenLine            == what `put_line` does
 --   Put old at bs new r    == bs were stored at that place, and r is the place behind them: what the functions below `put_line` do
+--   PutWhereFits           == the same where they fit behind that place; nothing is stored where they do not, and r is that place: what `put_mask` does
+--   OnePut                 == two outcomes that it allows are the same
 --   padded k v             == the last k decimal digits of v, zeros in front
 -- Assumes nothing.
-use Rattle.std.specs.Prelude.{ℕ, zero, suc, ◌+◌, ◌-◌, ◌/◌, ◌%◌, ◌≤◌, ◌≡◌, Bool, cond, ◌&&◌, List, [], ◌∷◌, ◌++◌, leb, length, take, drop}
+use Rattle.std.specs.Prelude.{ℕ, zero, suc, ◌+◌, ◌-◌, ◌/◌, ◌%◌, ◌≤◌, ◌<◌, ◌≡◌, Bool, cond, ◌&&◌, List, [], ◌∷◌, ◌++◌, leb, length, take, drop}
 use Rattle.std.proofs.lemmas.List.Edits.{sets}
 use Rattle.answer.specs.declared.Answer.{Answer}
 use Rattle.answer.specs.Numerals.{digit}
@@ -43,6 +45,14 @@ pub record WrittenLine (old : List ℕ) (at n : ℕ) (a : Answer) (new : List �
 pub record Put (old : List ℕ) (at : ℕ) (bs new : List ℕ) (r : ℕ) : Type 0 where
   pub next : r ≡ at + length bs
   pub bytes : new ≡ sets old at bs
+
+pub record PutWhereFits (old : List ℕ) (at : ℕ) (bs new : List ℕ) (r : ℕ) : Type 0 where
+  pub fits : at + length bs ≤ length old → Put old at bs new r
+  pub full : length old < at + length bs → (new ≡ old) × (r ≡ at)
+
+abbrev pub OnePut : Type 0
+OnePut =
+    (old bs : List ℕ) (at : ℕ) (x y : List ℕ) (r s : ℕ) → PutWhereFits old at bs x r → PutWhereFits old at bs y s → (x ≡ y) × (r ≡ s)
 
 abbrev pub padded : ℕ → ℕ → List ℕ
 padded zero v = []

@@ -1,24 +1,23 @@
 -- The nine records that counters and addresses stand for, as they are kept. Assumes nothing.
 --   port_held, counter_held, address_held == what is kept of a port, a counter and a byte, by its place
---   counter_any, address_any, due_any     == counters do not depend on addresses, nor addresses on counters
+--   counter_any, address_any              == counters do not depend on addresses, nor addresses on counters
 --   flat_back, spots_back, nine_back, nine_one == one to one
 --   counter_stored, address_stored        == a store at a place is a store of that counter in that record, and leaves all others; likewise of an address
 --   stored_at, spot_stored, fine_stored   == the same place by place, and that counters still fit
 --   port_stored                           == the same of all that is kept of a port; .. -unstored == past the last port nothing is stored
+--   readdress_any                         == an address written, beside any counters
 --   stretch_ports, stretch_none           == a stretch is one register over the nine ports, and nothing past the last register
-use Rattle.std.proofs.Common.{◌≡◌, ℕ, zero, suc, ◌+◌, ◌-◌, ◌*◌, ◌/◌, ◌%◌, ◌^◌, ◌<◌, ◌≤◌, Bool, true, false, cond, ◌&&◌, eqb, ltb, List, [], ◌∷◌, length, get_or, take, drop, set, replicate, sym, refl, ap, ◌∙◌, ap₂, arith, length-drop, length-set, drop_of_length-le, take_all, get_or-set_other, get_or-set_same, ltb-false, ltb-true, le-ltb, lt-ltb, eq-eqb, ne_eqb, eqb-true}
+use Rattle.std.proofs.lemmas.List.{drop_min, take_min, length-take}
+use Rattle.std.proofs.Common.{◌≡◌, ℕ, zero, suc, ◌+◌, ◌-◌, ◌*◌, ◌/◌, ◌%◌, ◌^◌, ◌<◌, ◌≤◌, Bool, true, false, cond, ◌&&◌, eqb, ltb, List, [], ◌∷◌, length, get_or, take, drop, set, replicate, min, sym, refl, ap, ◌∙◌, ap₂, arith, length-drop, length-set, get_or-set_other, get_or-set_same, ltb-false, ltb-true, le-ltb, lt-ltb, eq-eqb, ne_eqb, eqb-true}
 use mathlib.Core.Bool.{and-true, and-false}
 use borrow.Author.Tests.{eqb-false}
 use lib.ListN.{get_or-eq_default}
 use Rattle.ports.specs.Sets.{port_count}
-use Rattle.ports.specs.Each.{each}
-use Rattle.record.specs.declared.Burst.{Burst}
 use Rattle.attributes.specs.declared.Attributes.{Attributes}
 use Rattle.attributes.specs.declared.Nine.{Nine}
-use Rattle.attributes.specs.declared.Met.{Met}
+use Rattle.attributes.specs.declared.Flat.{Flat}
 use Rattle.attributes.specs.Nine.{counter_count, no_attributes, port_of, counter_of, address_of, with_port, with_address, readdressed, Proper}
-use Rattle.attributes.specs.Credits.{changed_by, due_of}
-use Rattle.attributes.specs.Flat.{place, flat_size, spot, spots_size, listed, record_at, nine_of, flat_of, spots_of, stretch_of, Counters, Six, Readdressed, FlatBack, NineBack, StoreIsOne, StretchIsOne}
+use Rattle.attributes.specs.Flat.{place, flat_size, spot, spots_size, listed, record_at, nine_of, nine_in, flat_of, spots_of, stretch_of, Counters, Six, Readdressed, FlatBack, NineBack, StoreIsOne, StretchIsOne}
 use Rattle.attributes.specs.Counts.{Written, Laid}
 use Rattle.attributes.proofs.FlatSheet.{bursts_kept}
 use Rattle.attributes.proofs.Listed.{listed_length, listed_at, listed_same, listed_all, listed_part, set_listed}
@@ -52,20 +51,11 @@ module _ (flat addresses : List ℕ) where
   byte_held i j h k = ap (λ (l : List ℕ). get_or l j 0) (address_held i h) ∙ listed_at 6 (λ j. get_or addresses (spot i j) 0) j 0 k
 
   -- as the code reads its six bytes
-  abbrev behind : ℕ → List ℕ
-  behind i =
-      get_or addresses (6 * i + 1) 0
-      ∷ get_or addresses (6 * i + 2) 0
-      ∷ get_or addresses (6 * i + 3) 0
-      ∷ get_or addresses (6 * i + 4) 0
-      ∷ get_or addresses (6 * i + 5) 0
-      ∷ []
-
-  pub address_read : (i : ℕ) → i < port_count → get_or addresses (6 * i) 0 ∷ behind i ≡ address_of (nine_of flat addresses) i
-  unfolding listed each
-  address_read i h =
-      let first : 6 * i ≡ spot i 0 = omega arith in
-      ap (λ (k : ℕ). get_or addresses k 0 ∷ behind i) first ∙ sym (address_held i h)
+  pub address_read : (i : ℕ) (source : List ℕ) → i < port_count → length source ≡ 6 → source ≡ take 6 (drop (6 * i) addresses)
+      → source ≡ address_of (nine_of flat addresses) i
+  address_read i source h e f =
+      let all : length (take 6 (drop (6 * i) addresses)) ≡ 6 = ap (λ (l : List ℕ). length l) (sym f) ∙ e in
+      f ∙ sym (address_held i h ∙ listed_part 6 (6 * i) addresses 0 (omega (arith, all, length-take 6 (drop (6 * i) addresses), length-drop (6 * i) addresses)))
 
   -- past the last port, and past the last register, there is nothing
   pub port_past : (i : ℕ) → port_count ≤ i → port_of (nine_of flat addresses) i ≡ no_attributes
@@ -108,12 +98,6 @@ address_any a b addresses i = go (ltb i port_count) refl
     go : (t : Bool) → ltb i port_count ≡ t → address_of (nine_of a addresses) i ≡ address_of (nine_of b addresses) i
     go true e = let h = ltb-true i port_count e in address_held a addresses i h ∙ sym (address_held b addresses i h)
     go false e = let h = ltb-false i port_count e in address_past a addresses i h ∙ sym (address_past b addresses i h)
-
--- what a burst is due asks for the single port's address alone
-pub due_any : (a b addresses : List ℕ) (met : Met) (burst : Burst) (source : List ℕ)
-    → due_of (nine_of a addresses) met burst source ≡ due_of (nine_of b addresses) met burst source
-unfolding due_of changed_by
-due_any a b addresses met burst source = rw (address_any a b addresses)
 
 -- ONE TO ONE
 
@@ -250,18 +234,20 @@ counter_stored flat addresses r i v e h l =
         ∙ sym (set_listed counter_count (λ q. get_or flat (place q i) 0) r v)))
 
 -- of addresses
-pub address_stored : (i : ℕ) (source flat addresses last : List ℕ) → length source ≡ 6 → length addresses ≡ spots_size → Written i source addresses last
-    → nine_of flat last ≡ readdressed i source (nine_of flat addresses)
+pub address_stored : (i : ℕ) (source : List ℕ) (flat last : Flat) → length source ≡ 6 → length flat.addresses ≡ spots_size → Written i source flat last
+    → nine_in last ≡ readdressed i source (nine_in flat)
 unfolding readdressed record_at
-address_stored i source flat addresses last n e w =
-    nine_put flat addresses flat last i _ here
-    (λ k m o. record_same flat addresses flat last k (λ r p. refl) (λ j p. w.is e k j m p ∙ rw (ne_eqb k i o)))
+address_stored i source flat last n e w =
+    nine_put flat.counters flat.addresses last.counters last.addresses i _ here
+    (λ k m o.
+    record_same flat.counters flat.addresses last.counters last.addresses k (λ r p. ap (λ (l : List ℕ). get_or l (place r k) 0) w.counters)
+    (λ j p. w.is e k j m p ∙ rw (ne_eqb k i o)))
   where
-    here : i < port_count → record_at flat last i ≡ with_address (port_of (nine_of flat addresses) i) source
+    here : i < port_count → record_at last.counters last.addresses i ≡ with_address (port_of (nine_in flat) i) source
     here l =
-        rw (port_held flat addresses i l)
-        (ap (λ (x : List ℕ). record { counters = listed counter_count (λ r. get_or flat (place r i) 0); address = x })
-        (listed_same 6 (λ j. get_or last (spot i j) 0) (λ j. get_or source j 0) (λ j p. w.is e i j l p ∙ rw (eq-eqb i i refl)) ∙ listed_all 6 source 0 n))
+        rw (w.counters, port_held flat.counters flat.addresses i l)
+        (ap (λ (x : List ℕ). record { counters = listed counter_count (λ r. get_or flat.counters (place r i) 0); address = x })
+        (listed_same 6 (λ j. get_or last.addresses (spot i j) 0) (λ j. get_or source j 0) (λ j p. w.is e i j l p ∙ rw (eq-eqb i i refl)) ∙ listed_all 6 source 0 n))
 
 -- past the last port
 pub address_unstored : (i : ℕ) (source flat addresses : List ℕ) → port_count ≤ i → nine_of flat addresses ≡ readdressed i source (nine_of flat addresses)
@@ -269,15 +255,23 @@ unfolding readdressed
 address_unstored i source flat addresses h = nine_put flat addresses flat addresses i _ (λ l. absurd (omega arith)) (λ k m n. refl)
 
 -- of all that is kept of a port
-pub port_stored : (i : ℕ) (numbers source flat addresses later last : List ℕ) → length numbers ≡ counter_count → length source ≡ 6 → length flat ≡ flat_size
-    → length addresses ≡ spots_size → Laid i numbers flat later → Written i source addresses last
-    → nine_of later last ≡ with_port (nine_of flat addresses) i (record { counters = numbers; address = source })
-port_stored i numbers source flat addresses later last m n e f laid w =
-    nine_put flat addresses later last i _
+pub port_stored : (i : ℕ) (numbers source : List ℕ) (flat later last : Flat) → length numbers ≡ counter_count → length source ≡ 6
+    → length flat.counters ≡ flat_size → length flat.addresses ≡ spots_size → Laid i numbers flat later → Written i source later last
+    → nine_in last ≡ with_port (nine_in flat) i (record { counters = numbers; address = source })
+port_stored i numbers source flat later last m n e f laid w =
+    rw w.counters
+    (nine_put flat.counters flat.addresses later.counters last.addresses i _
     (λ l.
-    record_is later last i numbers source m n (λ r p. laid.is e r i p l ∙ rw (eq-eqb i i refl)) (λ j p. w.is f i j l p ∙ rw (eq-eqb i i refl)))
+    record_is later.counters last.addresses i numbers source m n (λ r p. laid.is e r i p l ∙ rw (eq-eqb i i refl)) (λ j p. byte i j l p ∙ rw (eq-eqb i i refl)))
     (λ k o d.
-    record_same flat addresses later last k (λ r p. laid.is e r k p o ∙ rw (ne_eqb k i d)) (λ j p. w.is f k j o p ∙ rw (ne_eqb k i d)))
+    record_same flat.counters flat.addresses later.counters last.addresses k (λ r p. laid.is e r k p o ∙ rw (ne_eqb k i d))
+    (λ j p. byte k j o p ∙ rw (ne_eqb k i d))))
+  where
+    byte : (k j : ℕ) → k < port_count → j < 6
+        → get_or last.addresses (spot k j) 0 ≡ cond (eqb k i) (get_or source j 0) (get_or flat.addresses (spot k j) 0)
+    byte k j o p =
+        w.is (ap (λ (l : List ℕ). length l) laid.addresses ∙ f) k j o p
+        ∙ ap (λ (l : List ℕ). cond (eqb k i) (get_or source j 0) (get_or l (spot k j) 0)) laid.addresses
 
 -- past the last port
 pub port_unstored : (i : ℕ) (port : Attributes) (flat addresses : List ℕ) → port_count ≤ i → nine_of flat addresses ≡ with_port (nine_of flat addresses) i port
@@ -313,26 +307,49 @@ fine_stored flat k v h c = record { long = length-set flat k v ∙ c.long; low =
     go (x ∷ xs) (suc k) zero l = l 0
     go (x ∷ xs) (suc k) (suc j) l = go xs k j (λ i. l (suc i))
 
--- a stretch as the code cuts it out, from the place of its first port on
-module _ (flat : List ℕ) (r from : ℕ) (e : from ≡ place r 0) where
-  pub stretch_whole : r < counter_count → take (from + 9 - from) (drop from flat) ≡ stretch_of r flat
-  unfolding stretch_of
-  stretch_whole h = let n : from + 9 - from ≡ 9 = omega arith in rw (lt-ltb r counter_count h, n, e)
-
-  pub stretch_short : r < counter_count → length flat - from < port_count → take (length flat - from) (drop from flat) ≡ stretch_of r flat
-  unfolding stretch_of
-  stretch_short h l =
-      rw (lt-ltb r counter_count h, ← e)
-      (take_all (length flat - from) (drop from flat) (rw length-drop (omega arith)) ∙ sym (take_all port_count (drop from flat) (rw length-drop (omega arith))))
-
-  pub stretch_past : r < counter_count → length flat ≤ from → [] ≡ stretch_of r flat
-  unfolding stretch_of
-  stretch_past h l = rw (lt-ltb r counter_count h, ← e, drop_of_length-le flat l)
+-- a stretch as the code cuts it out, from the place of its first port on, as far as the array goes
+pub stretch_cut : (flat : List ℕ) (r from to : ℕ) → r < counter_count → from ≡ min (place r 0) (length flat) → to ≡ min (length flat) (from + port_count)
+    → take (to - from) (drop from flat) ≡ stretch_of r flat
+unfolding stretch_of
+stretch_cut flat r from to h e f =
+    let left : to - from ≡ min port_count (length flat - from) = omega arith in
+    let size : to - from ≡ min port_count (length (drop from flat)) = rw (length-drop from flat) left in
+    rw (lt-ltb r counter_count h)
+    (ap (λ (k : ℕ). take k (drop from flat)) size
+    ∙ take_min port_count (drop from flat)
+    ∙ ap (λ (l : List ℕ). take port_count l) (ap (λ (k : ℕ). drop k flat) e ∙ drop_min (place r 0) flat))
 
 -- AN ADDRESS WRITE, AS THE CODE MAKES IT
 
-pub readdress_made : (i : ℕ) (source addresses last : List ℕ) → length source ≡ 6 → Written i source addresses last → Readdressed i source addresses last
-readdress_made i source addresses last n w = record { fine = w.fine; is = λ e flat. address_stored i source flat addresses last n e w }
+pub readdress_made : (i : ℕ) (source : List ℕ) (flat last : Flat) → length source ≡ 6 → Written i source flat last → Readdressed i source flat last
+readdress_made i source flat last n w = record { counters = w.counters; fine = w.fine; is = λ e. address_stored i source flat last n e w }
 
-pub readdress_none : (i : ℕ) (source addresses : List ℕ) → port_count ≤ i → Readdressed i source addresses addresses
-readdress_none i source addresses h = record { fine = refl; is = λ e flat. address_unstored i source flat addresses h }
+pub readdress_none : (i : ℕ) (source : List ℕ) (flat : Flat) → port_count ≤ i → Readdressed i source flat flat
+readdress_none i source flat h = record { counters = refl; fine = refl; is = λ e. address_unstored i source flat.counters flat.addresses h }
+
+-- the same beside any counters: what the addresses stand for does not depend on them
+pub readdress_any : (i : ℕ) (source : List ℕ) (flat last : Flat) → length flat.addresses ≡ spots_size → Readdressed i source flat last → (counters : List ℕ)
+    → nine_of counters last.addresses ≡ readdressed i source (nine_of counters flat.addresses)
+unfolding readdressed with_port record_at address_of port_of
+readdress_any i source flat last e r counters = nine_put counters flat.addresses counters last.addresses i _ here rest
+  where
+    beside : ℕ → List ℕ → Attributes
+    beside k address = record { counters = listed counter_count (λ q. get_or counters (place q k) 0); address = address }
+
+    written : (k : ℕ) → k < port_count → listed 6 (λ j. get_or last.addresses (spot k j) 0) ≡ address_of (readdressed i source (nine_in flat)) k
+    written k l = sym (address_held last.counters last.addresses k l) ∙ ap (λ (nine : Nine). address_of nine k) (r.is e)
+
+    here : i < port_count → record_at counters last.addresses i ≡ with_address (port_of (nine_of counters flat.addresses) i) source
+    here l =
+        rw (port_held counters flat.addresses i l)
+        (ap (beside i)
+        (written i l
+        ∙ ap (λ (port : Attributes). port.address)
+        (get_or-set_same (nine_in flat).ports i _ no_attributes (rw (nine_ports flat.counters flat.addresses) l))))
+
+    rest : (k : ℕ) → k < port_count → (k ≡ i → ⊥) → record_at counters last.addresses k ≡ record_at counters flat.addresses k
+    rest k l n =
+        ap (beside k)
+        (written k l
+        ∙ ap (λ (port : Attributes). port.address) (get_or-set_other (nine_in flat).ports i k _ no_attributes n)
+        ∙ address_held flat.counters flat.addresses k l)

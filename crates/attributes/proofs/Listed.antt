@@ -2,7 +2,6 @@
 --   listed_length, listed_at == how long it is, and what stands at a place
 --   listed_same, listed_all, listed_part == two that are the same; a list, and a stretch of one, by its own places
 --   each_listed, set_listed  == what is done to each element, and a store
---   same_list                == two lists of one length that are the same at each place
 use Rattle.std.proofs.Common.{◌≡◌, ℕ, zero, suc, ◌+◌, ◌<◌, ◌≤◌, cond, eqb, List, [], ◌∷◌, length, get_or, take, drop, set, sym, refl, ap, ◌∙◌, ap₂, arith, length-drop, length-take-le, get_or-drop, get_or-take, ne_eqb}
 use lib.Dec.{eqb-suc-suc}
 use Rattle.ports.specs.Each.{each}
@@ -47,12 +46,6 @@ module _ {A : Type 0} where
       (ap (λ (l : List A). f 0 ∷ l)
       (set_listed n (λ i. f (suc i)) k v
       ∙ listed_same n (λ i. cond (eqb i k) v (f (suc i))) (λ i. cond (eqb (suc i) (suc k)) v (f (suc i))) (λ i h. rw (eqb-suc-suc i k))))
-
-  pub same_list : (xs ys : List A) (d : A) → length xs ≡ length ys → ((i : ℕ) → i < length xs → get_or xs i d ≡ get_or ys i d) → xs ≡ ys
-  same_list xs ys d e h =
-      sym (listed_all (length xs) xs d refl)
-      ∙ listed_same (length xs) (λ i. get_or xs i d) (λ i. get_or ys i d) h
-      ∙ listed_all (length xs) ys d (sym e)
 
 pub each_listed : {A B : Type 0} (n : ℕ) (f : ℕ → A) (g : ℕ → A → B) → each g (listed n f) ≡ listed n (λ i. g i (f i))
 unfolding listed each

@@ -13,9 +13,11 @@ use mathlib.Core.Bool.{and-false}
 use borrow.Author.Tests.{eqb-false}
 use lib.ListN.{get_or-replicate}
 use lib.Seq.{set_out}
-use Rattle.ports.specs.Sets.{port_count, nobody, has, gather, set_of}
+use Rattle.std.specs.Prelude.{Option, Some, None}
+use Rattle.std.proofs.lemmas.Option.{none-some}
+use Rattle.ports.specs.Sets.{port_count, is_at, has, gather, set_of}
 use Rattle.ports.specs.Each.{each}
-use Rattle.ports.proofs.Sets.{has_none, has_gather, set_true, set_false}
+use Rattle.ports.proofs.Sets.{has_none, has_gather, set_true, set_false, not_at}
 use Rattle.ports.proofs.Each.{each_at, each_length, set_keeps}
 use Rattle.record.specs.declared.Burst.{Burst}
 use Rattle.attributes.specs.declared.Attributes.{Attributes}
@@ -59,7 +61,7 @@ abbrev before : Nine
 before = with_port nothing_counted 1 (record { counters = 4294967295 ∷ replicate 12 0; address = replicate 6 0 })
 
 abbrev alone : Met
-alone = record { heard = 2; single = 1; collision = false; cut = 0; limit = 78 }
+alone = record { heard = 2; single = Some 1; collision = false; cut = 0; limit = 78 }
 
 abbrev after : Nine
 after = credited_all (due_of before alone frame sender) frame sender before
@@ -184,12 +186,12 @@ module _ (due : Due) (b : Burst) (source : List ℕ) (i : ℕ) (port : Attribute
 
   -- a port that is not heard is neither the single one nor one whose address changes
   module _ (k : Consistent due) (inside : i < port_count) (u : has due.heard i ≡ false) where
-    another : i ≡ due.single → ⊥
-    another e = no {A = ⊥} (rw e (k.single_heard (omega arith))) u
+    another : due.single ≡ Some i → ⊥
+    another e = no {A = ⊥} (k.single_heard i e inside) u
 
     not_single : (share_of due i).single ≡ false
     unfolding share_of
-    not_single = ne_eqb i due.single another
+    not_single = not_at due.single i another
 
     not_changed : has due.changed i ≡ false
     not_changed = go (has due.changed i) refl
@@ -298,19 +300,19 @@ module _ (nine : Nine) (met : Met) (b : Burst) (source : List ℕ) where
     within true false e l = has_none i
     within false false e l = has_none i
 
-    changed_at_lem : i < port_count → has (changed_by nine (framed p k) p source) i ≡ (eqb i p && eqb k readable_frames && other i)
+    changed_at_some : i < port_count → has (changed_by nine (framed (Some p) k) (Some p) source) i ≡ (eqb i p && eqb k readable_frames && other i)
     unfolding changed_by
-    changed_at_lem l = within (eqb i p) (framed p k && other p) refl l ∙ go (eqb i p) refl
+    changed_at_some l = within (eqb i p) (framed (Some p) k && other p) refl l ∙ go (eqb i p) refl
       where
-        go : (t : Bool) → eqb i p ≡ t → (t && (framed p k && other p)) ≡ (t && eqb k readable_frames && other i)
+        go : (t : Bool) → eqb i p ≡ t → (t && (framed (Some p) k && other p)) ≡ (t && eqb k readable_frames && other i)
         go true e =
             let q = eqb-true i p e in
             rw (lt-ltb p port_count (omega arith), q)
         go false e = refl
 
-    changed_there : has (changed_by nine (framed p k) p source) i ≡ true → (i ≡ p) × (p < port_count)
+    there_some : has (changed_by nine (framed (Some p) k) (Some p) source) i ≡ true → (i ≡ p) × (p < port_count)
     unfolding changed_by
-    changed_there = go (ltb p port_count) (eqb k readable_frames) (other p) refl
+    there_some = go (ltb p port_count) (eqb k readable_frames) (other p) refl
       where
         go : (u v w : Bool) → ltb p port_count ≡ u → has (cond (u && v && w) (set_of (λ j. eqb j p)) 0) i ≡ true → (i ≡ p) × (p < port_count)
         go true true true e h = (eqb-true i p (set_true (λ j. eqb j p) i h), ltb-true p port_count e)
@@ -318,19 +320,31 @@ module _ (nine : Nine) (met : Met) (b : Burst) (source : List ℕ) where
         go true false w e h = no h (has_none i)
         go false v w e h = no h (has_none i)
 
+  -- the same where there may be no such port
+  changed_at_lem : (o : Option ℕ) (k i : ℕ) → i < port_count
+      → has (changed_by nine (framed o k) o source) i ≡ (is_at o i && eqb k readable_frames && not (same_address source (address_of nine i)))
+  unfolding changed_by
+  changed_at_lem (Some p) k i l = changed_at_some p k i l
+  changed_at_lem None k i l = has_none i
+
+  changed_there : (o : Option ℕ) (k i : ℕ) → has (changed_by nine (framed o k) o source) i ≡ true → (o ≡ Some i) × (i < port_count)
+  unfolding changed_by
+  changed_there (Some p) k i h = let t = there_some p k i h in (rw t.0, rw t.0 t.1)
+  changed_there None k i h = no h (has_none i)
+
   -- an address changes exactly at the port that gets a readable frame from another address than its last
   pub changed_exactly : (i : ℕ) → i < port_count
       → has (due_of nine met b source).changed i ≡ (frame_at (due_of nine met b source) i && not (same_address source (address_of nine i)))
   unfolding due_of frame_at share_of
   changed_exactly i l = changed_at_lem (class_port met) (class_of met.limit b) i l
 
-  class_heard : SingleHeard met → class_port met < port_count → has met.heard (class_port met) ≡ true
+  class_heard : SingleHeard met → (p : ℕ) → class_port met ≡ Some p → p < port_count → has met.heard p ≡ true
   unfolding class_port
-  class_heard h = go met.collision
+  class_heard h p = go met.collision
     where
-      go : (t : Bool) → cond t nobody met.single < port_count → has met.heard (cond t nobody met.single) ≡ true
-      go true l = absurd (omega arith)
-      go false l = h l
+      go : (t : Bool) → cond t None met.single ≡ Some p → p < port_count → has met.heard p ≡ true
+      go true e l = absurd (none-some p e)
+      go false e l = h p e l
 
   pub due_consistent : SingleHeard met → Consistent (due_of nine met b source)
   unfolding due_of
@@ -344,18 +358,15 @@ module _ (nine : Nine) (met : Met) (b : Burst) (source : List ℕ) where
   unfolding due_of
   changed_heard h i c =
       let t = changed_there (class_port met) (class_of met.limit b) i c in
-      rw t.0 (class_heard h t.1)
+      class_heard h i t.0 t.1
 
   -- the nine ports' octets are those of Total Octets
-  pub octets_summed : sum_over port_count (λ i. credit_of (due_of nine met b source) b i readable_octets) ≡ (due_of nine met b source).octets
-  unfolding due_of credit_of credit_for share_of
-  octets_summed = go (ltb (class_port met) port_count) refl
+  summed : (o : Option ℕ) (k : ℕ) → sum_over port_count (λ i. cond (is_at o i && eqb k readable_frames) b.n 0) ≡ cond (framed o k) b.n 0
+  summed None k = sum_none port_count (λ i. 0) (λ i l. refl)
+  summed (Some p) k = go (ltb p port_count) refl
     where
-      p : ℕ
-      p = class_port met
-
       u : Bool
-      u = eqb (class_of met.limit b) readable_frames
+      u = eqb k readable_frames
 
       go : (t : Bool) → ltb p port_count ≡ t → sum_over port_count (λ i. cond (eqb i p && u) b.n 0) ≡ cond (t && u) b.n 0
       go true e =
@@ -363,6 +374,10 @@ module _ (nine : Nine) (met : Met) (b : Burst) (source : List ℕ) where
       go false e =
           let past = ltb-false p port_count e in
           sum_none port_count (λ i. cond (eqb i p && u) b.n 0) (λ i l. rw (ne_eqb i p (λ q. omega arith)))
+
+  pub octets_summed : sum_over port_count (λ i. credit_of (due_of nine met b source) b i readable_octets) ≡ (due_of nine met b source).octets
+  unfolding due_of credit_of credit_for share_of
+  octets_summed = summed (class_port met) (class_of met.limit b)
 
 -- ALL PORTS ALIKE, AS AT THE START
 

@@ -2,10 +2,9 @@
 --   most_that_fit == why 2,829,359: so many frames of 1518 octets stay below 2^32, and one more does not
 --   at_the_edge   == the last number of frames that is decided and the first that is turned away, computed
 --   decided       == the statement
-use Rattle.std.proofs.Common.{◌≡◌, ℕ, ◌*◌, ◌^◌, ◌<◌, ◌≤◌, Bool, true, false, cond, ◌&&◌, ltb, leb, sym, refl, ◌∙◌, true≢false, arith, ltb-false, ltb-true, le-ltb, lt-ltb, leb-true}
-use Rattle.attributes.specs.declared.octets.Check.{Check}
-use Rattle.attributes.specs.declared.octets.Check.TheVariants.{Yes, No, TurnedAway}
-use Rattle.attributes.specs.Octets.{check_of}
+use Rattle.std.proofs.Common.{◌≡◌, ℕ, ◌*◌, ◌^◌, ◌<◌, ◌≤◌, Bool, true, false, cond, ◌&&◌, Result, Ok, Err, ltb, leb, sym, refl, true≢false, arith, ltb-false, ltb-true, lt-ltb, leb-true}
+use Rattle.attributes.specs.declared.octets.TooManyFrames.{TooManyFrames}
+use Rattle.attributes.specs.Octets.{too_many, check_of}
 use Rattle.attributes.specs.OctetAnswer.{number_of, says_yes, Decided}
 use Rattle.attributes.proofs.OctetCheck.{check_passed}
 
@@ -18,8 +17,8 @@ unfolding check_of
 at_the_edge = (refl, refl, refl, refl)
 
 -- what the three tests come to
-tests : Bool → Bool → Check
-tests above inside = cond above (TurnedAway 10) (cond inside Yes No)
+tests : Bool → Bool → Result Bool TooManyFrames
+tests above inside = cond above (Err too_many) (Ok inside)
 
 ten_above : (a b : Bool) → number_of (tests a b) ≡ 10 → a ≡ true
 unfolding tests

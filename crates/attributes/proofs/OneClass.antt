@@ -5,8 +5,10 @@
 --   octets_of_frames, octets_fit == a port's octets are those of its readable frame, and have its size
 -- Assumes nothing.
 use Rattle.std.proofs.Common.{◌≡◌, ℕ, ◌+◌, ◌*◌, ◌<◌, ◌≤◌, Bool, true, false, cond, ◌&&◌, eqb, ltb, List, [], ◌∷◌, sym, refl, ◌∙◌, arith, ltb-false, ltb-true, le-ltb, lt-ltb, eq-eqb, ne_eqb, eqb-true}
-use Rattle.ports.specs.Sets.{port_count, nobody}
+use Rattle.std.specs.Prelude.{Some, None}
+use Rattle.ports.specs.Sets.{is_at}
 use Rattle.ports.specs.Each.{each}
+use Rattle.ports.proofs.Sets.{not_at}
 use Rattle.record.specs.declared.Burst.{Burst}
 use Rattle.attributes.specs.declared.Nine.{Nine}
 use Rattle.attributes.specs.declared.Met.{Met}
@@ -214,10 +216,10 @@ octets_fit limit s b k = go s.single (eqb s.class readable_frames) refl
 
 -- TP0's frame heard alone, and one that AUI alone is heard with beside its collision signal
 abbrev heard_alone : Met
-heard_alone = record { heard = 1; single = 0; collision = false; cut = 0; limit = 78 }
+heard_alone = record { heard = 1; single = Some 0; collision = false; cut = 0; limit = 78 }
 
 abbrev aui_signalled : Met
-aui_signalled = record { heard = 256; single = 8; collision = true; cut = 0; limit = 78 }
+aui_signalled = record { heard = 256; single = Some 8; collision = true; cut = 0; limit = 78 }
 
 abbrev no_source : List ℕ
 no_source = 0 ∷ 0 ∷ 0 ∷ 0 ∷ 0 ∷ 0 ∷ []
@@ -231,24 +233,23 @@ on_the_ports = (refl, refl, refl)
 
 -- On the ports: the single heard port gets the class of its burst; where there is a collision, and at every other port, none is credited.
 module _ (nine : Nine) (met : Met) (b : Burst) (source : List ℕ) where
-  pub single_port : (r : ℕ) → met.collision ≡ false → Falls met.limit b r → OnlyClass (credit_of (due_of nine met b source) b met.single) r
+  pub single_port : (p r : ℕ) → met.single ≡ Some p → met.collision ≡ false → Falls met.limit b r → OnlyClass (credit_of (due_of nine met b source) b p) r
   unfolding credit_of share_of due_of class_port
-  single_port r c w = one_class met.limit (share_of (due_of nine met b source) met.single) b r refl (rw (c, eq-eqb met.single met.single refl)) w
+  single_port p r s c w = one_class met.limit (share_of (due_of nine met b source) p) b r refl (rw (c, s, eq-eqb p p refl)) w
 
-  -- nobody is the port's number where none, or more than one, is heard
-  pub other_port : (i r : ℕ) → i < port_count → (i ≡ met.single → ⊥) → Among r classes → credit_of (due_of nine met b source) b i r ≡ 0
+  pub other_port : (i r : ℕ) → (met.single ≡ Some i → ⊥) → Among r classes → credit_of (due_of nine met b source) b i r ≡ 0
   unfolding credit_of share_of due_of class_port
-  other_port i r l n a = no_class (share_of (due_of nine met b source) i) b r (go met.collision) a
+  other_port i r n a = no_class (share_of (due_of nine met b source) i) b r (go met.collision) a
     where
-      go : (t : Bool) → eqb i (cond t nobody met.single) ≡ false
-      go true = ne_eqb i nobody (λ e. omega arith)
-      go false = ne_eqb i met.single n
+      go : (t : Bool) → is_at (cond t None met.single) i ≡ false
+      go true = refl
+      go false = not_at met.single i n
 
-  pub colliding_port : (i r : ℕ) → i < port_count → met.collision ≡ true → Among r classes → credit_of (due_of nine met b source) b i r ≡ 0
+  pub colliding_port : (i r : ℕ) → met.collision ≡ true → Among r classes → credit_of (due_of nine met b source) b i r ≡ 0
   unfolding credit_of share_of due_of class_port
-  colliding_port i r l c a = no_class (share_of (due_of nine met b source) i) b r (rw (c, ne_eqb i nobody (λ e. omega arith))) a
+  colliding_port i r c a = no_class (share_of (due_of nine met b source) i) b r (rw c) a
 
   -- The six together: one at the port that the class goes to, none elsewhere.
-  pub six_together : (i : ℕ) → credits_in (credit_of (due_of nine met b source) b i) classes ≡ one (eqb i (class_port met))
+  pub six_together : (i : ℕ) → credits_in (credit_of (due_of nine met b source) b i) classes ≡ one (is_at (class_port met) i)
   unfolding credits_in credit_of share_of due_of
   six_together i = share_together met.limit (share_of (due_of nine met b source) i) b refl

@@ -1,8 +1,7 @@
 -- Many readings of one counter, and what their differences add up to, computed. Assumes nothing.
 --   the_totals  == Q-14's rows and their neighbours
 --   the_answers == the last sum that 64 bits hold and the first that they do not; a sum that is carried on
-use Rattle.std.proofs.Common.{◌≡◌, [], ◌∷◌, refl}
-use Rattle.attributes.specs.declared.octets.Total.TheVariants.{Sum, TooLarge}
+use Rattle.std.proofs.Common.{◌≡◌, [], ◌∷◌, Some, None, refl}
 use Rattle.attributes.specs.Octets.{total_after, total_of, answered, total_on}
 
 the_totals : (total_of [] ≡ 0)
@@ -17,14 +16,14 @@ unfolding total_of total_after
 the_totals = (refl, refl, refl, refl, refl, refl, refl, refl)
 
 -- the last sum that fits, and the first that does not
-the_answers : (answered 0 ≡ Sum 0)
-    × (answered 18446744073709551615 ≡ Sum 18446744073709551615)
-    × (answered 18446744073709551616 ≡ TooLarge)
-    × (total_on (Sum 18446744073709551615) 5 (5 ∷ []) ≡ Sum 18446744073709551615)
-    × (total_on (Sum 18446744073709551615) 5 (6 ∷ []) ≡ TooLarge)
-    × (total_on (Sum 18446744069414584320) 1 (0 ∷ []) ≡ Sum 18446744073709551615)
-    × (total_on (Sum 18446744069414584321) 1 (0 ∷ []) ≡ TooLarge)
-    × (total_on (Sum 3) 2 (1 ∷ []) ≡ Sum 4294967298)
-    × (total_on TooLarge 5 (5 ∷ []) ≡ TooLarge)
+the_answers : (answered 0 ≡ Some 0)
+    × (answered 18446744073709551615 ≡ Some 18446744073709551615)
+    × (answered 18446744073709551616 ≡ None)
+    × (total_on (Some 18446744073709551615) 5 (5 ∷ []) ≡ Some 18446744073709551615)
+    × (total_on (Some 18446744073709551615) 5 (6 ∷ []) ≡ None)
+    × (total_on (Some 18446744069414584320) 1 (0 ∷ []) ≡ Some 18446744073709551615)
+    × (total_on (Some 18446744069414584321) 1 (0 ∷ []) ≡ None)
+    × (total_on (Some 3) 2 (1 ∷ []) ≡ Some 4294967298)
+    × (total_on None 5 (5 ∷ []) ≡ None)
 unfolding answered total_on total_after
 the_answers = (refl, refl, refl, refl, refl, refl, refl, refl, refl)

@@ -1,13 +1,14 @@
--- No section of document 01: what the functions beneath `credit` and `with_port` do to the arrays that they are lent. Everything is said by register and port.
+-- No section of document 01: what the functions beneath `credit` and `with_port` do to the Flat that they are lent. Everything is said by register and port.
 --   counted_for due burst r i == what counter R of port i gets of what is due
---   framed_port due           == the port that a readable frame gives its source address to, or nobody
---   Written i source ..      == port i's six bytes are source, and all others as they were
---   Laid i numbers ..        == port i's thirteen counters are numbers, and all others as they were
+--   framed_port due           == the port that a readable frame gives its source address to, or none
+--   Written i source ..      == port i's six bytes are source, and all else as it was
+--   Laid i numbers ..        == port i's thirteen counters are numbers, and all else as it was
 -- Assumes nothing.
-use Rattle.std.specs.Prelude.{◌≡◌, ℕ, ◌<◌, cond, ◌&&◌, ◌||◌, List, length, ◌==◌, slice_index}
-use Rattle.ports.specs.Sets.{port_count, nobody, has}
+use Rattle.std.specs.Prelude.{◌≡◌, ℕ, ◌<◌, Option, Some, None, cond, ◌&&◌, ◌||◌, List, length, ◌==◌, slice_index}
+use Rattle.ports.specs.Sets.{port_count, has}
 use Rattle.record.specs.declared.Burst.{Burst}
 use Rattle.attributes.specs.declared.Due.{Due}
+use Rattle.attributes.specs.declared.Flat.{Flat}
 use Rattle.attributes.specs.Nine.{readable_frames, counter_count}
 use Rattle.attributes.specs.Credits.{credit_of}
 use Rattle.attributes.specs.Flat.{place, spot, flat_size, spots_size}
@@ -15,15 +16,22 @@ use Rattle.attributes.specs.Flat.{place, spot, flat_size, spots_size}
 unfoldable pub counted_for : Due → Burst → ℕ → ℕ → ℕ
 counted_for due burst r i = cond (has due.heard i || has due.cut i) (credit_of due burst i r) 0
 
-unfoldable pub framed_port : Due → ℕ
-framed_port due = cond (due.class == readable_frames && (has due.heard due.single || has due.cut due.single)) due.single nobody
+-- of the port that the class goes to, if it goes to one
+abbrev pub framed_of : Due → Option ℕ → Option ℕ
+framed_of due (Some p) = cond (due.class == readable_frames && (has due.heard p || has due.cut p)) (Some p) None
+framed_of due None = None
 
-pub record Written (i : ℕ) (source addresses last : List ℕ) : Type 0 where
-  pub fine : length last ≡ length addresses
-  pub is : length addresses ≡ spots_size → (k j : ℕ) → k < port_count → j < 6
-      → slice_index last (spot k j) ≡ cond (k == i) (slice_index source j) (slice_index addresses (spot k j))
+unfoldable pub framed_port : Due → Option ℕ
+framed_port due = framed_of due due.single
 
-pub record Laid (i : ℕ) (numbers flat later : List ℕ) : Type 0 where
-  pub fine : length later ≡ length flat
-  pub is : length flat ≡ flat_size → (r k : ℕ) → r < counter_count → k < port_count
-      → slice_index later (place r k) ≡ cond (k == i) (slice_index numbers r) (slice_index flat (place r k))
+pub record Written (i : ℕ) (source : List ℕ) (flat later : Flat) : Type 0 where
+  pub counters : later.counters ≡ flat.counters
+  pub fine : length later.addresses ≡ length flat.addresses
+  pub is : length flat.addresses ≡ spots_size → (k j : ℕ) → k < port_count → j < 6
+      → slice_index later.addresses (spot k j) ≡ cond (k == i) (slice_index source j) (slice_index flat.addresses (spot k j))
+
+pub record Laid (i : ℕ) (numbers : List ℕ) (flat later : Flat) : Type 0 where
+  pub addresses : later.addresses ≡ flat.addresses
+  pub fine : length later.counters ≡ length flat.counters
+  pub is : length flat.counters ≡ flat_size → (r k : ℕ) → r < counter_count → k < port_count
+      → slice_index later.counters (place r k) ≡ cond (k == i) (slice_index numbers r) (slice_index flat.counters (place r k))

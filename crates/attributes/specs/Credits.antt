@@ -1,6 +1,6 @@
 -- Document 01, 'Burst', the paragraph on credits. For a short event RFC 1516 wants a limit between 74 and 82 bit times: power-up chooses one of 75 to 81, and
 -- 78 is the usual one. For a late event, of 480 to 565, the paper takes over 512; for a data rate mismatch, of 552 to 565, over 552.
---   Met                 == a burst as the chip met it: H, the single heard port or nobody, whether it is a collision for the credits, the ports that it
+--   Met                 == a burst as the chip met it: H, the single heard port or none, whether it is a collision for the credits, the ports that it
 --                          partitioned, and the short event limit
 --   class_of limit burst == the register of the one class that a single heard port's burst without collision falls in
 --   same_address s a     == two addresses are the same, byte by byte
@@ -11,8 +11,8 @@
 --   credited_all due burst source nine == all nine ports' attributes after the burst
 --   SingleHeard met, Consistent due   == the single port, where there is one, is heard; an address changes at no other port
 -- Assumes nothing.
-use Rattle.std.specs.Prelude.{◌≡◌, ℕ, ◌+◌, ◌%◌, ◌^◌, ◌<◌, Bool, true, cond, not, ◌&&◌, ◌||◌, List, replicate, ◌==◌, nat_eq, nat_lt, slice_index}
-use Rattle.ports.specs.Sets.{port_count, nobody, has, set_of}
+use Rattle.std.specs.Prelude.{◌≡◌, ℕ, ◌+◌, ◌%◌, ◌^◌, ◌<◌, Option, Some, None, Bool, true, false, cond, not, ◌&&◌, ◌||◌, List, replicate, ◌==◌, nat_eq, nat_lt, slice_index}
+use Rattle.ports.specs.Sets.{port_count, is_at, has, set_of}
 use Rattle.ports.specs.Each.{each}
 use Rattle.record.specs.declared.Burst.{Burst}
 use Rattle.burst.specs.Marks.{jabber_above}
@@ -69,20 +69,22 @@ same_address s a =
     && slice_index s 5 == slice_index a 5
 
 -- the port that the class goes to: in a collision it goes to none
-unfoldable pub class_port : Met → ℕ
-class_port met = cond met.collision nobody met.single
+unfoldable pub class_port : Met → Option ℕ
+class_port met = cond met.collision None met.single
 
 -- a readable frame is credited to that port
-abbrev pub framed : ℕ → ℕ → Bool
-framed single class = nat_lt single port_count && class == readable_frames
+abbrev pub framed : Option ℕ → ℕ → Bool
+framed (Some single) class = nat_lt single port_count && class == readable_frames
+framed None class = false
 
 -- the port whose last source address a readable frame changes, as a set
-unfoldable pub changed_by : Nine → Bool → ℕ → List ℕ → ℕ
-changed_by nine frame single source = cond (frame && not (same_address source (address_of nine single))) (set_of (λ i. nat_eq i single)) 0
+unfoldable pub changed_by : Nine → Bool → Option ℕ → List ℕ → ℕ
+changed_by nine frame (Some single) source = cond (frame && not (same_address source (address_of nine single))) (set_of (λ i. nat_eq i single)) 0
+changed_by nine frame None source = 0
 
 unfoldable pub due_of : Nine → Met → Burst → List ℕ → Due
 due_of nine met burst source =
-    let single : ℕ = class_port met in
+    let single : Option ℕ = class_port met in
     let class : ℕ = class_of met.limit burst in
     record {
       heard = met.heard;
@@ -97,7 +99,7 @@ due_of nine met burst source =
 unfoldable pub share_of : Due → ℕ → Share
 share_of due i = record {
   heard = has due.heard i;
-  single = (i == due.single);
+  single = is_at due.single i;
   collision = due.collision && has due.heard i;
   class = due.class;
   cut = has due.cut i;
@@ -153,8 +155,8 @@ unfoldable pub credited_all : Due → Burst → List ℕ → Nine → Nine
 credited_all due burst source nine = record { ports = each (credited_at due burst source) nine.ports }
 
 abbrev pub SingleHeard : Met → Type 0
-SingleHeard met = met.single < port_count → has met.heard met.single ≡ true
+SingleHeard met = (p : ℕ) → met.single ≡ Some p → p < port_count → has met.heard p ≡ true
 
 pub record Consistent (due : Due) : Type 0 where
-  pub single_heard : due.single < port_count → has due.heard due.single ≡ true
-  pub changed_single : (i : ℕ) → has due.changed i ≡ true → i ≡ due.single
+  pub single_heard : (p : ℕ) → due.single ≡ Some p → p < port_count → has due.heard p ≡ true
+  pub changed_single : (i : ℕ) → has due.changed i ≡ true → due.single ≡ Some i

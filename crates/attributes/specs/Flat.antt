@@ -5,10 +5,10 @@
 --   nine_of flat addresses    == the nine records that two arrays stand for; nine_in f == the same of what the code keeps
 --   flat_of nine, spots_of nine == the two arrays of nine records
 --   stretch_of r flat         == one register over the nine ports, as it stands in an array of any length
---   Fit flat addresses       == what the type of the two arrays says of them: a proof is not told it of arrays that are lent
+--   Fit flat                 == what the type of the two arrays says of them: a proof is not told it of a Flat that is lent
 --   Six nine                 == addresses have six bytes
---   Counting f flat later    == counter R of port i has got f r i
---   Credited, Readdressed    == what `credit` and `readdress` do to the arrays that they are lent
+--   Counting f flat later    == counter R of port i has got f r i, and the addresses are as they were
+--   Credited, Readdressed    == what `credit` and `readdress` do to the Flat that they are lent
 --   FlatBack, NineBack       == one to one: from the arrays to the records and back, and the other way
 --   StoreIsOne               == a store at the place of a counter is a store of that counter in that record, and leaves all others
 --   StretchIsOne             == a stretch is one register over the nine ports, and nothing past the last register
@@ -68,9 +68,9 @@ pub record Counters (flat : List ℕ) : Type 0 where
   pub long : length flat ≡ flat_size
   pub low : (k : ℕ) → slice_index flat k < 2 ^ 32
 
-pub record Fit (flat addresses : List ℕ) : Type 0 where
-  pub counters : Counters flat
-  pub spots : length addresses ≡ spots_size
+pub record Fit (flat : Flat) : Type 0 where
+  pub counters : Counters flat.counters
+  pub spots : length flat.addresses ≡ spots_size
 
 pub record Six (nine : Nine) : Type 0 where
   pub bytes : (i : ℕ) → i < port_count → length (address_of nine i) ≡ 6
@@ -80,19 +80,21 @@ abbrev pub with_counter : Nine → ℕ → ℕ → ℕ → Nine
 with_counter nine i r v = with_port nine i (record { counters = slice_set (port_of nine i).counters r v; address = (port_of nine i).address })
 
 -- counters wrap at 2^32
-pub record Counting (f : ℕ → ℕ → ℕ) (flat later : List ℕ) : Type 0 where
-  pub fine : Counters flat → Counters later
-  pub is : Counters flat → (r i : ℕ) → r < counter_count → i < port_count
-      → slice_index later (place r i) ≡ (slice_index flat (place r i) + f r i) % 2 ^ 32
+pub record Counting (f : ℕ → ℕ → ℕ) (flat later : Flat) : Type 0 where
+  pub addresses : later.addresses ≡ flat.addresses
+  pub fine : Counters flat.counters → Counters later.counters
+  pub is : Counters flat.counters → (r i : ℕ) → r < counter_count → i < port_count
+      → slice_index later.counters (place r i) ≡ (slice_index flat.counters (place r i) + f r i) % 2 ^ 32
 
-pub record Readdressed (i : ℕ) (source addresses last : List ℕ) : Type 0 where
-  pub fine : length last ≡ length addresses
-  pub is : length addresses ≡ spots_size → (flat : List ℕ) → nine_of flat last ≡ readdressed i source (nine_of flat addresses)
+pub record Readdressed (i : ℕ) (source : List ℕ) (flat later : Flat) : Type 0 where
+  pub counters : later.counters ≡ flat.counters
+  pub fine : length later.addresses ≡ length flat.addresses
+  pub is : length flat.addresses ≡ spots_size → nine_in later ≡ readdressed i source (nine_in flat)
 
-pub record Credited (met : Met) (burst : Burst) (source flat addresses : List ℕ) (r : Due) (later last : List ℕ) : Type 0 where
-  pub due : r ≡ due_of (nine_of flat addresses) met burst source
-  pub fine : Fit flat addresses → Fit later last
-  pub is : Fit flat addresses → nine_of later last ≡ credited_all r burst source (nine_of flat addresses)
+pub record Credited (met : Met) (burst : Burst) (source : List ℕ) (flat : Flat) (r : Due) (later : Flat) : Type 0 where
+  pub due : r ≡ due_of (nine_in flat) met burst source
+  pub fine : Fit flat → Fit later
+  pub is : Fit flat → nine_in later ≡ credited_all r burst source (nine_in flat)
 
 abbrev pub FlatBack : Type 0
 FlatBack =

@@ -6,8 +6,7 @@
 --   bursts                 == several registers of one port; a collision of all nine; the last place, going round; each register that the others leave out
 --   numbered               == 0, 1, .. 116, each in its own place
 -- Assumes nothing.
-use Rattle.std.specs.Prelude.{ℕ, zero, suc, ◌+◌, true, List, [], ◌∷◌, ◌++◌, replicate, slice_set}
-use Rattle.ports.specs.Sets.{nobody}
+use Rattle.std.specs.Prelude.{ℕ, zero, suc, ◌+◌, true, None, List, [], ◌∷◌, ◌++◌, replicate, slice_set}
 use Rattle.record.specs.declared.Burst.{Burst}
 use Rattle.attributes.specs.declared.Nine.{Nine}
 use Rattle.attributes.specs.declared.Met.{Met}
@@ -63,7 +62,7 @@ bursts =
     -- a frame of 64 octets at TP1: Readable Frames, Readable Octets, Source Address Changes
     row 0 (alone 1) (burst 600 64 0 0) (store 1 1 ∷ store 10 64 ∷ store 109 1 ∷ []) (six 6)
     -- all nine collide, late and very long, and are partitioned
-    ∷ row 0 (met 0b111111111 nobody true 0b111111111) (burst 65537 9 0 513) (ones 9 63 ++ ones 9 72 ++ ones 9 81 ++ ones 9 99) []
+    ∷ row 0 (met 0b111111111 None true 0b111111111) (burst 65537 9 0 513) (ones 9 63 ++ ones 9 72 ++ ones 9 81 ++ ones 9 99) []
     -- a frame at AUI where every counter is full: the last place, 116, goes round
     ∷ row 4294967295 (alone 8) (burst 600 64 0 0) (store 8 0 ∷ store 17 63 ∷ store 116 0 ∷ []) (six 48)
     -- FCS Errors, Alignment Errors, Frames Too Long, Short Events, Runts, Data Rate Mismatches, each at another port

@@ -7,8 +7,7 @@
 --                               and the octets for Total Octets and the ports with another address. found is what the definitions make of it
 --   classes, limits, collided, others == the tables: the six classes; the short event limit; collisions; very long, mistimed, partitioned and changed
 -- Assumes nothing.
-use Rattle.std.specs.Prelude.{ℕ, ◌^◌, Bool, true, false, List, [], ◌∷◌, replicate, slice_set}
-use Rattle.ports.specs.Sets.{nobody}
+use Rattle.std.specs.Prelude.{ℕ, ◌^◌, Bool, true, false, Option, Some, None, List, [], ◌∷◌, replicate, slice_set}
 use Rattle.record.specs.declared.Burst.{Burst}
 use Rattle.attributes.specs.declared.Attributes.{Attributes}
 use Rattle.attributes.specs.declared.Nine.{Nine}
@@ -41,21 +40,21 @@ bad = flagged true false
 abbrev pub mistimed : ℕ → ℕ → ℕ → ℕ → Burst
 mistimed = flagged false true
 
-abbrev pub met_with : ℕ → ℕ → ℕ → Bool → ℕ → Met
+abbrev pub met_with : ℕ → ℕ → Option ℕ → Bool → ℕ → Met
 met_with limit heard single collision cut = record { heard = heard; single = single; collision = collision; cut = cut; limit = limit }
 
 -- with the usual limit
-abbrev pub met : ℕ → ℕ → Bool → ℕ → Met
+abbrev pub met : ℕ → Option ℕ → Bool → ℕ → Met
 met = met_with 78
 
 abbrev pub alone : ℕ → Met
-alone p = met (2 ^ p) p false 0
+alone p = met (2 ^ p) (Some p) false 0
 
 abbrev pub several : ℕ → Met
-several heard = met heard nobody true 0
+several heard = met heard None true 0
 
 abbrev pub signalled : Met
-signalled = met 0b100000000 8 true 0
+signalled = met 0b100000000 (Some 8) true 0
 
 abbrev pub home : List ℕ
 home = 2 ∷ 0 ∷ 0 ∷ 0 ∷ 0 ∷ 1 ∷ []
@@ -134,13 +133,13 @@ classes =
     ∷ row (alone 8) (burst 77 9 0 0) 8 (ones (5 ∷ []))
     ∷ counted 0 (alone 8) (burst 600 64 0 0) home 8 (framed 64) home 64 0
     ∷ counted 0 (alone 0) (burst 600 64 0 0) home 1 (ones []) home 64 0
-    -- nobody heard
-    ∷ row (met 0 nobody false 0) (burst 600 64 0 0) 0 (ones [])
+    -- none heard
+    ∷ row (met 0 None false 0) (burst 600 64 0 0) 0 (ones [])
     ∷ []
 
 -- a burst of d bit times at TP0, met with that limit, is counted in that register
 abbrev pub limited : ℕ → ℕ → ℕ → Row
-limited limit d r = row (met_with limit 1 0 false 0) (burst d 9 0 0) 0 (ones (r ∷ []))
+limited limit d r = row (met_with limit 1 (Some 0) false 0) (burst d 9 0 0) 0 (ones (r ∷ []))
 
 -- the seven limits, each one bit time below it and at it
 abbrev pub limits : List Row
@@ -197,10 +196,10 @@ others =
     ∷ row (several 0b000000011) (mistimed 553 9 0 0) 0 (ones (7 ∷ []))
     ∷ row signalled (mistimed 553 9 0 0) 8 (ones (7 ∷ []))
     -- Auto Partitions, R 11, for the ports that were partitioned, heard or not
-    ∷ row (met 0b000000011 nobody true 0b000000001) (burst 2000 9 0 0) 0 (ones (7 ∷ 11 ∷ []))
-    ∷ row (met 0b000000011 nobody true 0b000000001) (burst 2000 9 0 0) 1 (ones (7 ∷ []))
-    ∷ row (met 0b000000100 2 false 0b100000000) (burst 2000 9 0 0) 8 (ones (11 ∷ []))
-    ∷ row (met 0b000000100 2 false 0b100000000) (burst 2000 9 0 0) 2 (ones (6 ∷ []))
+    ∷ row (met 0b000000011 None true 0b000000001) (burst 2000 9 0 0) 0 (ones (7 ∷ 11 ∷ []))
+    ∷ row (met 0b000000011 None true 0b000000001) (burst 2000 9 0 0) 1 (ones (7 ∷ []))
+    ∷ row (met 0b000000100 (Some 2) false 0b100000000) (burst 2000 9 0 0) 8 (ones (11 ∷ []))
+    ∷ row (met 0b000000100 (Some 2) false 0b100000000) (burst 2000 9 0 0) 2 (ones (6 ∷ []))
     -- Source Address Changes, R 12, with a readable frame from another address, which is then the last; else the address stays
     ∷ counted 0 (alone 0) (burst 600 64 0 0) away 0 (slice_set (framed 64) 12 1) away 64 0b000000001
     ∷ counted 0 (alone 8) (burst 600 64 0 0) nearby 8 (slice_set (framed 64) 12 1) nearby 64 0b100000000

@@ -1,99 +1,100 @@
 // Readings of a counter, two or many, and the octet check.
-ghost use Rattle.std.specs.Prelude.{◌≡◌, ◌+◌, [], ◌∷◌};
-ghost use Rattle.attributes.specs.Octets.{difference_of, check_of, total_after, total_of, answered, total_on};
+ghost use Rattle.std.specs.Prelude.{◌≡◌, ◌+◌, [], ◌∷◌, Some, decimal};
+ghost use Rattle.attributes.specs.Octets.{difference_of, turned_away_with, check_of, total_after, total_of, answered, total_on};
 
 use crate::Attributes;
+use std::error::Error;
+use std::fmt;
 
-#[derive(Clone, Copy)]
-pub enum Check {
-    Yes,
-    No,
-    TurnedAway(u8),
-}
+// The octet check turned away, with 10: so many frames could wrap the octets.
+#[derive(Clone, Copy, Debug, PartialEq, Eq)]
+pub struct TooManyFrames;
 
-impl Check {
-    // More frames than this could wrap the octets.
+impl TooManyFrames {
+    // More frames than this are too many.
     pub const MOST_FRAMES: u32 = 2_829_359;
+
+    // The number that the check is turned away with.
+    pub const NUMBER: u8 = 10;
 }
+
+impl From<TooManyFrames> for u8 {
+    ghost from_gives = { λ e n. n ≡ turned_away_with e };
+
+    fn from(_turned_away: TooManyFrames) -> u8 {
+        TooManyFrames::NUMBER
+    }
+}
+
+impl fmt::Display for TooManyFrames {
+    ghost output = { λ e. Some (decimal (turned_away_with e)) };
+
+    fn fmt<W: fmt::Write>(&self, f: &mut fmt::Formatter<W>) -> fmt::Result {
+        write!(f, "{}", u8::from(*self))
+    }
+}
+
+impl Error for TooManyFrames {}
 
 // Later minus earlier modulo 2^32.
 pub fn difference(later: u32, earlier: u32) -> u32
     ensures { result ≡ difference_of later earlier }
 {
-    std::num::wrapping_sub_u32(later, earlier)
+    later.wrapping_sub(earlier)
 }
 
 // Whether so many octets fit so many readable frames.
-pub fn octet_check(frames: u32, octets: u32) -> Check
+#[tactic(auto, unfolding(crate::specs::Octets::check_of))]
+pub fn octet_check(frames: u32, octets: u32) -> Result<bool, TooManyFrames>
     ensures { result ≡ check_of frames octets }
 {
-    if Check::MOST_FRAMES < frames {
-        return Check::TurnedAway(10);
+    if TooManyFrames::MOST_FRAMES < frames {
+        return Err(TooManyFrames);
     }
-    if Attributes::SHORTEST * frames <= octets {
-        if octets <= Attributes::LONGEST * frames {
-            return Check::Yes;
-        }
-        return Check::No;
-    }
-    Check::No
+    Ok(Attributes::SHORTEST * frames <= octets && octets <= Attributes::LONGEST * frames)
 }
 
-// What the differences of many readings add up to, or that 64 bits do not hold it.
-#[derive(Clone, Copy)]
-pub enum Total {
-    Sum(u64),
-    TooLarge,
-}
-
-// The sum of the differences of readings in a row, each later minus earlier modulo 2^32. With none or one it is 0. Readings of one run belong
-// together: a power-up cannot be seen in them, and whoever polls begins a new sum behind it.
-pub fn total_of(readings: &[u32]) -> Total
+// The sum of the differences of readings in a row, each later minus earlier modulo 2^32, or none where 64 bits do not hold it. Of no reading or one
+// it is 0. Readings of one run belong together: a power-up cannot be seen in them, and whoever polls begins a new sum behind it.
+#[tactic(auto, using(crate::proofs::Totals::none_at_all, crate::proofs::Totals::from_first))]
+pub fn total_of(readings: &[u32]) -> Option<u64>
     ensures { result ≡ answered (total_of readings.now) }
 {
-    if readings.len() == 0 {
-        return Total::Sum(0);
+    match readings {
+        [] => Some(0),
+        [first, rest @ ..] => carried(0, *first, rest),
     }
-    carried(0, readings[0], &readings[1..])
 }
 
-// A sum so far and the last reading in it, carried on by the next readings.
-pub fn total_on(sum: Total, last: u32, readings: &[u32]) -> Total
+// A sum so far and the last reading in it, carried on by the next readings. One that did not fit never fits again.
+#[tactic(auto, unfolding(crate::specs::Octets::total_on))]
+pub fn total_on(sum: Option<u64>, last: u32, readings: &[u32]) -> Option<u64>
     ensures { result ≡ total_on sum last readings.now }
 {
-    match sum {
-        Total::Sum(n) => carried(n, last, readings),
-        Total::TooLarge => Total::TooLarge,
-    }
+    carried(sum?, last, readings)
 }
 
 // The same by one reading, for those that poll.
-pub fn further(sum: Total, last: u32, reading: u32) -> Total
+pub fn further(sum: Option<u64>, last: u32, reading: u32) -> Option<u64>
     ensures { result ≡ total_on sum last (reading ∷ []) }
 {
     total_on(sum, last, &[reading])
 }
 
-fn wide(n: u32) -> u64
-    ensures { result ≡ n }
-{
-    n as u64
-}
-
-// The differences of the readings, each from the one before it, added to a sum. Kept is how much more fits.
-fn carried(sum: u64, last: u32, readings: &[u32]) -> Total
+// The differences of the readings, each from the one before it, added to a sum.
+fn carried(sum: u64, last: u32, readings: &[u32]) -> Option<u64>
     ensures { result ≡ answered (sum + total_after last readings.now) }
 {
-    let mut room = u64::MAX - sum;
+    let mut total = sum;
     let mut before = last;
-    for i in 0..readings.len() {
-        let reading = readings[i];
-        let more = wide(difference(reading, before));
-        if room < more {
-            return Total::TooLarge;
+    for &reading in readings {
+        // A sum that has wrapped is less than what came to it. By checked_add the program totals takes a quarter more time for a reading.
+        let more = u64::from(difference(reading, before));
+        total = total.wrapping_add(more);
+        if total < more {
+            return None;
         }
-        room = room - more;
         before = reading;
     }
-    Total::Sum(u64::MAX - room)
+    Some(total)
 }

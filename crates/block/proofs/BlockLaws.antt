@@ -1,12 +1,14 @@
 -- The block's definitions, turn by turn, as the loop goes. Assumes nothing.
 --   begins, ends, fills == the loop begins; it ends where no whole record is left, and where there is no room for a line
+--   piece_off, rest_off, whole_off == a piece that comes off the rest of the input is the piece at its place; what is then left; there was a whole one
 --   turned              == a record read, answered and told leads to where the loop stands next, whatever it asked for
 --   step_burst, step_quiet, step_c_write, step_d_write, step_c_read, step_d_read, step_reset, step_refused
 --                       == what it leads to, for each thing that it can ask for
 --   piece_refused       == what is no whole record is turned away with 9
 use Rattle.std.proofs.Common.{◌≡◌, ℕ, zero, suc, ◌+◌, ◌-◌, ◌/◌, ◌<◌, ◌≤◌, true, false, List, ◌++◌, length, take, drop, sym, refl, ap, ◌∙◌, arith, length-append, length-drop, length-take, ne_eqb}
+use Rattle.std.proofs.Math.Seq.{take-append_seam, drop-append_seam, drop-drop}
 use Rattle.ports.specs.declared.Quiet.{Quiet}
-use Rattle.ports.specs.Sets.{nobody}
+use Rattle.std.specs.Prelude.{None}
 use Rattle.record.specs.declared.Access.{Access}
 use Rattle.record.specs.declared.Access.TheVariants.{WriteC, WriteD, ReadC, ReadD}
 use Rattle.record.specs.declared.Asked.{Asked}
@@ -83,6 +85,23 @@ module _ (p : Point) (n : ℕ) (input out : List ℕ) where
     all = λ h. absurd (omega (arith, e, f, s.behind, s.same));
   }
 
+-- A PIECE COMES OFF THE REST OF THE INPUT
+
+module _ (input : List ℕ) (from : ℕ) (left x rest : List ℕ) (f : left ≡ drop from input) (e : left ≡ x ++ rest) (l : length x ≡ record_length) where
+  both : drop from input ≡ x ++ rest
+  both = sym f ∙ e
+
+  pub piece_off : x ≡ piece input from
+  piece_off = sym (ap (take record_length) both ∙ ap (λ (k : ℕ). take k (x ++ rest)) (sym l) ∙ take-append_seam x rest)
+
+  pub rest_off : rest ≡ drop (from + record_length) input
+  rest_off = sym (sym (drop-drop record_length from input) ∙ ap (drop record_length) both ∙ ap (λ (k : ℕ). drop k (x ++ rest)) (sym l) ∙ drop-append_seam x rest)
+
+  pub whole_off : record_length ≤ length input - from
+  whole_off =
+      let a : length input - from ≡ length x + length rest = sym (length-drop from input) ∙ ap length both ∙ length-append x rest in
+      omega (arith, a, l)
+
 -- a line changes no length
 same_line : {old new : List ℕ} {at n r : ℕ} {a : Answer} → at ≤ length old → room ≤ length old - at → WrittenLine old at n a new r
     → length new ≡ length old
@@ -112,9 +131,7 @@ module _ {p : Point} {n : ℕ} {input out : List ℕ} {w : Work} {r : Record} {n
       let stood = k.stands in
       let roomy : has_room w.out w.used ≡ true = rooms.room w.out w.used stood.fits k.roomy in
       let length_of_line : length new ≡ length w.out = same_line stood.fits k.roomy put in
-      let size : w.at + record_length - w.at ≡ record_length = omega arith in
-      let read : r ≡ record_of (piece input w.at) = rw size at k.read in
-      let step : t ≡ step_of w.point.chip w.point.host (piece input w.at) = e ∙ ap (taking w) read in
+      let step : t ≡ step_of w.point.chip w.point.host (piece input w.at) = e ∙ ap (taking w) k.read in
       record {
         inside = omega (arith, k.whole, stood.inside);
         fits = omega (arith, put.short, k.roomy, length_of_line);
@@ -139,39 +156,39 @@ module _ {p : Point} {n : ℕ} {input out : List ℕ} {w : Work} {r : Record} {n
   unfolding taken
   step_quiet {quiet} e f = rw f (asks (ask.Quiet quiet) e)
 
-  -- an access v, as the record's match gives a and the access's match v
-  serves : {a : Access} (v : Access) → r.asked ≡ ask.Access a → a ≡ v
+  -- an access v
+  serves : (v : Access) → r.asked ≡ ask.Access v
       → after_access w.point.chip.attributes (served v w.point.chip.core w.point.chip.attributes w.point.host) ≡ taking w r
   unfolding taken
-  serves v e f = asks (ask.Access v) (e ∙ ap (λ (z : Access). ask.Access z) f)
+  serves v e = asks (ask.Access v) e
 
-  pub step_c_write : {a : Access} {b : ℕ} {host : Host} → r.asked ≡ ask.Access a → a ≡ WriteC b → host ≡ selected b w.point.host
+  pub step_c_write : {b : ℕ} {host : Host} → r.asked ≡ ask.Access (WriteC b) → host ≡ selected b w.point.host
       → finished w.point.chip host ≡ taking w r
   unfolding served addressed_at
-  step_c_write {a} {b} e f g = rw g (serves (WriteC b) e f)
+  step_c_write {b} e g = rw g (serves (WriteC b) e)
 
-  pub step_d_write : {a : Access} {b : ℕ} {t : Acted} {nine : Nine} → r.asked ≡ ask.Access a → a ≡ WriteD b
+  pub step_d_write : {b : ℕ} {t : Acted} {nine : Nine} → r.asked ≡ ask.Access (WriteD b)
       → t ≡ d_write_of w.point.chip.core w.point.host b
       → nine ≡ addressed_at t.port t.host.bytes w.point.chip.attributes → acted t nine t.host ≡ taking w r
   unfolding served
-  step_d_write {a} {b} e f g n = rw (n, g) (serves (WriteD b) e f)
+  step_d_write {b} e g n = rw (n, g) (serves (WriteD b) e)
 
-  pub step_c_read : {a : Access} {t : Acted} → r.asked ≡ ask.Access a → a ≡ ReadC
+  pub step_c_read : {t : Acted} → r.asked ≡ ask.Access ReadC
       → t ≡ c_read_of w.point.chip.core w.point.host
       → acted t w.point.chip.attributes w.point.host ≡ taking w r
   unfolding served c_read_of addressed_at
-  step_c_read e f g = rw g (serves ReadC e f)
+  step_c_read e g = rw g (serves ReadC e)
 
-  pub step_d_read : {a : Access} {t : Acted} → r.asked ≡ ask.Access a → a ≡ ReadD
+  pub step_d_read : {t : Acted} → r.asked ≡ ask.Access ReadD
       → t ≡ d_read_of w.point.chip.core w.point.chip.attributes w.point.host
       → acted t w.point.chip.attributes t.host ≡ taking w r
   unfolding served
-  step_d_read {a} {t} e f g =
+  step_d_read {t} e g =
       let c = w.point.chip.core in
       let nine = w.point.chip.attributes in
-      let none : t.port ≡ nobody = ap (λ (z : Acted). z.port) g ∙ read_nobody c nine w.point.host in
+      let none : t.port ≡ None = ap (λ (z : Acted). z.port) g ∙ read_nobody c nine w.point.host in
       let kept : addressed_at t.port t.host.bytes nine ≡ nine = rw none (addressed_nobody t.host.bytes nine) in
-      ap (λ (l : Nine). acted t l t.host) (sym kept) ∙ ap (after_access nine) g ∙ serves ReadD e f
+      ap (λ (l : Nine). acted t l t.host) (sym kept) ∙ ap (after_access nine) g ∙ serves ReadD e
 
   pub step_reset : {core : Core} {host : Host} → r.asked ≡ ask.Reset → core ≡ core_reset w.point.chip.core → host ≡ power_up
       → finished (with_core w.point.chip core) host ≡ taking w r

@@ -1,7 +1,7 @@
 -- Document 01, the run program: the whole records of a stretch of input, answered one after the other, and their lines in a lent buffer. A record is
 -- answered only where there is room for its line. A buffer at least as long as the input has room for all, since no line is longer than a record.
 --   Work            == how far it has come: where the run stands, the next record's number, input taken, output used, and the buffer
---   standing ..     == a run stands at this core, these counters and addresses as they are kept, and this host's record
+--   standing ..     == a run stands at this chip as it is kept, and this host's record
 --   came_to b out    == how far it has come as `answer_block` returns it, with the buffer out
 --   piece s at      == the record at the place at
 --   told w h        == after a record that h happened to
@@ -15,8 +15,8 @@ use Rattle.std.specs.Prelude.{◌≡◌, ℕ, zero, suc, ◌+◌, ◌-◌, ◌/�
 use Rattle.record.specs.Record.{record_length}
 use Rattle.host.specs.declared.Host.{Host}
 use Rattle.answer.specs.Put.{has_room, after_line, with_line}
-use Rattle.chip.specs.declared.Core.{Core}
-use Rattle.chip.specs.Flat.{holding}
+use Rattle.chip.specs.declared.FlatChip.{FlatChip}
+use Rattle.chip.specs.Flat.{chip_of}
 use Rattle.himib.specs.Runs.{Point, Happening, at, happening}
 use Rattle.block.specs.declared.Block.{Block}
 
@@ -27,11 +27,11 @@ pub record Work : Type 0 where
   pub used : ℕ
   pub out : List ℕ
 
-abbrev pub standing : Core → List ℕ → List ℕ → Host → Point
-standing core flat addresses host = at (holding core flat addresses) host
+abbrev pub standing : FlatChip → Host → Point
+standing chip host = at (chip_of chip) host
 
 abbrev pub came_to : Block → List ℕ → Work
-came_to b out = record { point = standing b.core b.flat.counters b.flat.addresses b.host; number = b.number; at = b.at; used = b.used; out = out }
+came_to b out = record { point = standing b.chip b.host; number = b.number; at = b.at; used = b.used; out = out }
 
 abbrev pub piece : List ℕ → ℕ → List ℕ
 piece s at = take record_length (drop at s)

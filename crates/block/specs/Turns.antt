@@ -3,13 +3,13 @@
 --   Stands p n input out w    == where the loop stands: at the work w, from which the whole records that are left lead to what the block comes to
 --   Reading p n input out w r next == there is room at w, the record r is read there, and next is the number after its own
 -- Assumes nothing.
-use Rattle.std.specs.Prelude.{◌≡◌, ℕ, ◌+◌, ◌-◌, ◌/◌, ◌%◌, ◌^◌, ◌≤◌, List, length, take, drop}
+use Rattle.std.specs.Prelude.{◌≡◌, ℕ, ◌+◌, ◌-◌, ◌/◌, ◌%◌, ◌^◌, ◌≤◌, List, length}
 use Rattle.record.specs.declared.Record.{Record}
 use Rattle.record.specs.Record.{record_length}
 use Rattle.record.specs.Refusals.{record_of}
 use Rattle.answer.specs.Put.{room}
 use Rattle.himib.specs.Runs.{Point}
-use Rattle.block.specs.Block.{Work, worked, block_of}
+use Rattle.block.specs.Block.{Work, piece, worked, block_of}
 
 abbrev pub left : List ℕ → Work → ℕ
 left s w = (length s - w.at) / record_length
@@ -25,5 +25,5 @@ pub record Reading (p : Point) (n : ℕ) (input out : List ℕ) (w : Work) (r : 
   pub stands : Stands p n input out w
   pub whole : record_length ≤ length input - w.at
   pub roomy : room ≤ length w.out - w.used
-  pub read : r ≡ record_of (take (w.at + record_length - w.at) (drop w.at input))
+  pub read : r ≡ record_of (piece input w.at)
   pub counted : next ≡ (w.number + 1) % 2 ^ 64

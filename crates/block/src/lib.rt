@@ -4,62 +4,46 @@
 ghost use Rattle.block.specs.Block.{standing, came_to, Answered, AnsweredPiece};
 
 use answer::Answer;
-use attributes::Flat;
-use chip::Core;
+use chip::FlatChip;
 use host::Host;
-use record::{Access, Asked, Record};
+use record::{Access, Asked, Record, Refusal};
 
 // How far a block came: the chip and the host's record after it, the number of the next record, and how many bytes of the input were taken and of the
 // buffer used.
 #[derive(Clone, Copy)]
 pub struct Block {
-    pub core: Core,
-    pub flat: Flat,
+    pub chip: FlatChip,
     pub host: Host,
     pub number: u64,
     pub at: usize,
     pub used: usize,
 }
 
-// Answers every whole record of the input that there is room for and puts the lines into the buffer, one after the other. The core, the counters, the
-// addresses and the host's record are kept apart, and what a record asks for touches only what it changes: so each has its own way through the loop. The
-// counters and addresses are lent to what changes or reads them, and never copied.
-pub fn answer_block(
-    core0: Core,
-    counters0: [u32; Flat::COUNTERS],
-    addresses0: [u8; Flat::ADDRESSES],
-    h: Host,
-    first: u64,
-    input: &[u8],
-    out: &mut [u8],
-) -> Block
-    ensures { Answered (standing core0 counters0 addresses0 h) first input.now out.old (came_to result out.new) }
+// Answers every whole record of the input that there is room for and puts the lines into the buffer, one after the other. The core, the counters with
+// the addresses, and the host's record are kept apart, and what a record asks for touches only what it changes: so each has its own way through the loop.
+// The counters and addresses are lent to what changes or reads them, and never copied.
+pub fn answer_block(chip: FlatChip, h: Host, first: u64, input: &[u8], out: &mut [u8]) -> Block
+    ensures { Answered (standing chip h) first input.now out.old (came_to result out.new) }
 {
-    let mut core = core0;
-    let mut counters = counters0;
-    let mut addresses = addresses0;
+    let mut core = chip.core;
+    let mut flat = chip.flat;
     let mut record = h;
     let mut number = first;
     let mut at: usize = 0;
     let mut used: usize = 0;
-    while Record::LENGTH <= input.len() - at {
+    for piece in input.chunks_exact(Record::LENGTH) {
         if out.len() - used < Answer::ROOM {
             break;
         }
-        let next = at + Record::LENGTH;
-        let r = record::read_record(&input[at..next]);
-        let asked = r.asked;
-        let source = r.source;
+        let r = record::read_record(piece);
         let line = number;
-        number = std::num::wrapping_add_u64(line, 1);
-        at = next;
-        match asked {
+        number = line.wrapping_add(1);
+        at += Record::LENGTH;
+        match r.asked {
             Asked::Burst(b) => {
-                let t = himib::burst(core, &mut counters, &mut addresses, b, source);
-                let after = t.core;
-                let said = t.answer;
-                core = after;
-                used = answer::put_line(out, used, line, said);
+                let t = himib::burst(core, &mut flat, b, r.source);
+                core = t.core;
+                used = answer::put_line(out, used, line, t.answer);
                 continue;
             }
             Asked::Quiet(quiet) => {
@@ -67,45 +51,31 @@ pub fn answer_block(
                 used = answer::put_line(out, used, line, Answer::Done);
                 continue;
             }
-            Asked::Access(a) => {
-                match a {
-                    Access::WriteC(byte) => {
-                        record = host::select(record, byte);
-                        used = answer::put_line(out, used, line, Answer::Done);
-                        continue;
-                    }
-                    Access::WriteD(byte) => {
-                        let t = access::write_d(core, record, byte);
-                        let after = t.core;
-                        let altered = t.host;
-                        let said = t.answer;
-                        let port = t.port;
-                        let bytes = altered.bytes;
-                        attributes::readdress(&mut addresses, port, bytes);
-                        core = after;
-                        record = altered;
-                        used = answer::put_line(out, used, line, said);
-                        continue;
-                    }
-                    Access::ReadC => {
-                        let t = access::read_c(core, record);
-                        let after = t.core;
-                        let said = t.answer;
-                        core = after;
-                        used = answer::put_line(out, used, line, said);
-                        continue;
-                    }
-                    Access::ReadD => {
-                        let t = access::read_d(core, &counters, &addresses, record);
-                        let after = t.core;
-                        let altered = t.host;
-                        let said = t.answer;
-                        core = after;
-                        record = altered;
-                        used = answer::put_line(out, used, line, said);
-                        continue;
-                    }
-                }
+            Asked::Access(Access::WriteC(byte)) => {
+                record = host::select(record, byte);
+                used = answer::put_line(out, used, line, Answer::Done);
+                continue;
+            }
+            Asked::Access(Access::WriteD(byte)) => {
+                let t = access::write_d(core, record, byte);
+                core = t.core;
+                record = t.host;
+                himib::write_address(&mut flat, t.port, t.host.bytes);
+                used = answer::put_line(out, used, line, t.answer);
+                continue;
+            }
+            Asked::Access(Access::ReadC) => {
+                let t = access::read_c(core, record);
+                core = t.core;
+                used = answer::put_line(out, used, line, t.answer);
+                continue;
+            }
+            Asked::Access(Access::ReadD) => {
+                let t = access::read_d(core, &flat, record);
+                core = t.core;
+                record = t.host;
+                used = answer::put_line(out, used, line, t.answer);
+                continue;
             }
             Asked::Reset => {
                 core = core.reset();
@@ -120,15 +90,11 @@ pub fn answer_block(
         }
     }
     Block {
-        core: core,
-        flat: Flat {
-            counters: counters,
-            addresses: addresses,
-        },
+        chip: FlatChip { core, flat },
         host: record,
-        number: number,
-        at: at,
-        used: used,
+        number,
+        at,
+        used,
     }
 }
 
@@ -139,5 +105,10 @@ pub fn answer_piece(number: u64, piece: &[u8], out: &mut [u8]) -> usize
     if piece.len() == Record::LENGTH {
         return 0;
     }
-    answer::put_line(out, 0, number, Answer::Refused(9))
+    answer::put_line(
+        out,
+        0,
+        number,
+        Answer::Refused(u8::from(Refusal::WrongLength)),
+    )
 }

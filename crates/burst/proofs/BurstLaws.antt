@@ -3,9 +3,10 @@ use Prim.Native.Nat.{ℕ, ◌-◌, ◌<◌}
 use mathlib.Core.Path.{◌≡◌, refl, sym, ◌∙◌}
 use mathlib.Core.Bool.{Bool, true, false, not, ◌&&◌, ◌||◌, and-true, or-false}
 use native.Mathlib.Omega.{arith}
+use Rattle.std.specs.Prelude.{Some, None}
 use lib.Dec.{eqb}
 use lib.Bits.{bit_and, bit_or, or_lt, and_le_l}
-use Rattle.ports.specs.Sets.{aui, nobody, has, set_of, without}
+use Rattle.ports.specs.Sets.{aui, has, set_of, without}
 use Rattle.ports.proofs.Sets.{has_and, has_or, has_gather, has_without, is_gather, gather_lt, set_and, set_empty}
 use Rattle.burst.specs.declared.Activity.{Activity}
 use Rattle.burst.specs.declared.Bus.{Bus}
@@ -25,10 +26,6 @@ module _ (activity : Activity) where
 
   pub active_mask : activity.mask < 65536 → activity.collision_signal ≡ false → activity.mask ≡ set_of (in_e activity)
   active_mask l s = is_gather 16 activity.mask (in_e activity) l (λ i h. sym (rw s (or-false (has activity.mask i))))
-
--- the bus brings nothing: it can bring nothing else
-pub no_other : (bus : Bus) → bus ≡ Bus.Nothing
-no_other Bus.Nothing = refl
 
 -- the ports that collide
 module _ (activity : Activity) (hearing : Hearing) where
@@ -67,7 +64,7 @@ module _ (activity : Activity) (hearing : Hearing) where
 -- what follows, from its parts
 module _ (activity : Activity) (hearing : Hearing) where
   pub with_none : (c : ℕ) → c ≡ (effect_with Bus.Nothing Heard.Nothing hearing activity).collided
-      → ◌≡◌ {A = Effect} (record { word = Nil; out = 0; collided = c; single = nobody; collision = false; transmit_collision = false })
+      → ◌≡◌ {A = Effect} (record { word = Nil; out = 0; collided = c; single = None; collision = false; transmit_collision = false })
       (effect_with Bus.Nothing Heard.Nothing hearing activity)
   unfolding effect_with
   with_none c p = rw (p, ← set_empty)
@@ -80,14 +77,14 @@ module _ (activity : Activity) (hearing : Hearing) where
 
   pub with_one : (p k o c : ℕ) (w : Word) (z : Bool) → hearing.t < 65536 → w ≡ word_of_one p activity → k ≡ set_of (λ i. eqb i p) → o ≡ without hearing.t k
       → c ≡ (effect_with Bus.Nothing (Heard.One p) hearing activity).collided → z ≡ signalled p activity
-      → ◌≡◌ {A = Effect} (record { word = w; out = o; collided = c; single = p; collision = z; transmit_collision = false })
+      → ◌≡◌ {A = Effect} (record { word = w; out = o; collided = c; single = Some p; collision = z; transmit_collision = false })
       (effect_with Bus.Nothing (Heard.One p) hearing activity)
   unfolding effect_with
   with_one p k o c w z l a b d e f = rw (a, d ∙ out_one p k l b, e, f)
 
   pub with_more : hearing.t < 65536 → hearing.e < 65536
       → ◌≡◌ {A = Effect}
-      (record { word = Jam; out = hearing.t; collided = bit_and hearing.e hearing.t; single = nobody; collision = true; transmit_collision = true })
+      (record { word = Jam; out = hearing.t; collided = bit_and hearing.e hearing.t; single = None; collision = true; transmit_collision = true })
       (effect_with Bus.Nothing Heard.More hearing activity)
   unfolding effect_with
   with_more l m =

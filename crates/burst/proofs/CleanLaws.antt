@@ -11,7 +11,7 @@ use Rattle.ports.proofs.Sets.{has_and, has_or, has_none, has_gather, has_without
 use Rattle.burst.specs.declared.Activity.{Activity}
 use Rattle.burst.specs.declared.Hearing.{Hearing}
 use Rattle.burst.specs.declared.Effect.{Effect}
-use Rattle.burst.specs.Clean.{lasting_above, is_jam, is_rep, data_to, clean_at, lasting_at}
+use Rattle.burst.specs.Clean.{lasting_above, is_jam, is_rep, data_to, clean_at, lasting_at, reconnecting_at}
 
 -- a set from what it has at every place
 module _ (k : ℕ → Bool) where
@@ -65,3 +65,9 @@ module _ (hearing : Hearing) (effect : Effect) where
     pub collided_lasts_not : (i : ℕ) → has effect.collided i ≡ true → lasting_at hearing effect activity i ≡ false
     unfolding lasting_at clean_at
     collided_lasts_not i h = simp (h, and-false)
+
+-- the ports that it connects again, by the standard algorithm: no less than those that it lasts for
+pub reconnecting_all : (effect : Effect) (lasting : ℕ) (alternate : Bool) → lasting < 65536 → alternate ≡ false
+    → lasting ≡ set_of (reconnecting_at effect lasting alternate)
+unfolding reconnecting_at
+reconnecting_all effect lasting alternate l e = same_set (reconnecting_at effect lasting alternate) lasting l (λ i. simp (e, and-true))

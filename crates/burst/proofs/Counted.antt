@@ -4,21 +4,24 @@
 -- While the bus brings nothing:
 --   out_at_none, -one, -more, collided_at_none, -one, -more == which ports are sent to, and which collide, by what is heard
 -- and for every hearing that counts its own heard ports:
---   single_port, single_nobody == the effect's single port is p exactly if p alone is heard, and nobody exactly if no port is heard alone
+--   single_port, single_nobody == the effect's single port is p exactly if p alone is heard, and there is none exactly if no port is heard alone
 --   single_heard, unheard_single == the single port is heard; what is not heard is not it
 --   several_heard        == it is a transmit collision exactly if two different ports or more are heard
 --   collision_of_none, -of-one, -of-several == when it is a collision for the credits
 use Prim.Native.Nat.{ℕ, zero, suc, ◌<◌}
-use mathlib.Core.Path.{◌≡◌, refl, sym, ◌∙◌}
-use mathlib.Core.Bool.{Bool, true, false, not, ◌&&◌, ◌||◌, false≢true, true≢false}
+use mathlib.Core.Path.{◌≡◌, refl, sym, ap, ◌∙◌}
+use mathlib.Core.Bool.{true, false, not, ◌&&◌, ◌||◌, false≢true, true≢false}
+use Rattle.std.specs.Prelude.{Option, unwrap_or}
+use Rattle.std.specs.declared.option.Option.TheVariants as option
+use Rattle.std.proofs.lemmas.Option.{none-some}
 use native.Mathlib.Omega.{arith}
-use borrow.Author.Tests.{ne_eqb, eqb-true, leb-true, leb-false}
-use lib.Dec.{eqb, leb}
+use borrow.Author.Tests.{ne_eqb}
+use lib.Dec.{eqb}
 use lib.Count.{ones, count_trailing_zeros}
-use Rattle.ports.specs.Sets.{aui, nobody, has, None, Only, Several}
+use Rattle.ports.specs.Sets.{aui, is_at, has, None, Only, Several}
 use Rattle.history.specs.Exactly.{Exactly}
 use Rattle.ports.proofs.Sets.{count_none, count_one, count_several, none_only, none_several, only_several, only_same}
-use Rattle.ports.proofs.Sets.{has_past, has_gather, set_true, and_first, and_second}
+use Rattle.ports.proofs.Sets.{has_gather, set_true, and_first, and_second, at_some, not_at}
 use Rattle.burst.specs.declared.Activity.{Activity}
 use Rattle.burst.specs.declared.Bus.{Bus}
 use Rattle.burst.specs.declared.Heard.{Heard}
@@ -156,47 +159,43 @@ module _ (hearing : Hearing) (activity : Activity) (i : ℕ) (l : i < 16) where
   unfolding effect_of effect_with
   collided_at_more e = rw e (has_gather 16 (λ j. has hearing.e j && has hearing.t j) i l)
 
-only_below : (h p : ℕ) → h < 65536 → Only h p → p < nobody
-only_below h p l o = go (leb 16 p) refl
-  where
-    go : (b : Bool) → leb 16 p ≡ b → p < nobody
-    go true e = absurd (true≢false (sym o.is ∙ has_past 16 h p l (leb-true 16 p e)))
-    go false e = leb-false 16 p e
+some_same : {p q : ℕ} → option.Some p ≡ option.Some q → p ≡ q
+some_same e = ap (λ (o : Option ℕ). unwrap_or o 0) e
 
 module _ (hearing : Hearing) (activity : Activity) (counted : hearing.heard ≡ heard_of hearing.h) (l : hearing.h < 65536) where
-  of_none : heard_of hearing.h ≡ Nothing → (effect_of Bus.Nothing hearing activity).single ≡ nobody
+  of_none : heard_of hearing.h ≡ Nothing → (effect_of Bus.Nothing hearing activity).single ≡ option.None
   unfolding effect_of effect_with
   of_none e = rw (counted ∙ e)
 
-  of_one : (p : ℕ) → heard_of hearing.h ≡ One p → (effect_of Bus.Nothing hearing activity).single ≡ p
+  of_one : (p : ℕ) → heard_of hearing.h ≡ One p → (effect_of Bus.Nothing hearing activity).single ≡ option.Some p
   unfolding effect_of effect_with
   of_one p e = rw (counted ∙ e)
 
-  of_more : heard_of hearing.h ≡ More → (effect_of Bus.Nothing hearing activity).single ≡ nobody
+  of_more : heard_of hearing.h ≡ More → (effect_of Bus.Nothing hearing activity).single ≡ option.None
   unfolding effect_of effect_with
   of_more e = rw (counted ∙ e)
 
-  pub single_port : (p : ℕ) → p < nobody → Exactly ((effect_of Bus.Nothing hearing activity).single ≡ p) (Only hearing.h p)
-  single_port p b = go (account hearing.h l)
+  pub single_port : (p : ℕ) → Exactly ((effect_of Bus.Nothing hearing activity).single ≡ option.Some p) (Only hearing.h p)
+  single_port p = go (account hearing.h l)
     where
-      go : Account hearing.h → Exactly ((effect_of Bus.Nothing hearing activity).single ≡ p) (Only hearing.h p)
-      go (nothing e n) = record { forth = λ a. absurd (omega (arith, sym (of_none e) ∙ a)); back = λ o. absurd (none_only n o) }
-      go (one q e o) = record { forth = λ a. rw (sym a ∙ of_one q e) o; back = λ k. rw (only_same k o) (of_one q e) }
-      go (more e s) = record { forth = λ a. absurd (omega (arith, sym (of_more e) ∙ a)); back = λ o. absurd (only_several o s) }
+      go : Account hearing.h → Exactly ((effect_of Bus.Nothing hearing activity).single ≡ option.Some p) (Only hearing.h p)
+      go (nothing e n) = record { forth = λ a. absurd (none-some _ (sym (of_none e) ∙ a)); back = λ o. absurd (none_only n o) }
+      go (one q e o) = record { forth = λ a. rw (some_same (sym a ∙ of_one q e)) o; back = λ k. rw (only_same k o) (of_one q e) }
+      go (more e s) = record { forth = λ a. absurd (none-some _ (sym (of_more e) ∙ a)); back = λ o. absurd (only_several o s) }
 
-  pub single_nobody : Exactly ((effect_of Bus.Nothing hearing activity).single ≡ nobody) ((p : ℕ) → Only hearing.h p → ⊥)
+  pub single_nobody : Exactly ((effect_of Bus.Nothing hearing activity).single ≡ option.None) ((p : ℕ) → Only hearing.h p → ⊥)
   single_nobody = go (account hearing.h l)
     where
-      go : Account hearing.h → Exactly ((effect_of Bus.Nothing hearing activity).single ≡ nobody) ((p : ℕ) → Only hearing.h p → ⊥)
+      go : Account hearing.h → Exactly ((effect_of Bus.Nothing hearing activity).single ≡ option.None) ((p : ℕ) → Only hearing.h p → ⊥)
       go (nothing e n) = record { forth = λ a p o. none_only n o; back = λ a. of_none e }
-      go (one q e o) = record { forth = λ a. absurd (omega (arith, only_below hearing.h q l o, sym (of_one q e) ∙ a)); back = λ a. absurd (a q o) }
+      go (one q e o) = record { forth = λ a. absurd (none-some _ (sym a ∙ of_one q e)); back = λ a. absurd (a q o) }
       go (more e s) = record { forth = λ a p o. only_several o s; back = λ a. of_more e }
 
-  pub single_heard : (i : ℕ) → i < nobody → eqb i (effect_of Bus.Nothing hearing activity).single ≡ true → has hearing.h i ≡ true
-  single_heard i b e = ((single_port i b).forth (sym (eqb-true i (effect_of Bus.Nothing hearing activity).single e))).is
+  pub single_heard : (i : ℕ) → is_at (effect_of Bus.Nothing hearing activity).single i ≡ true → has hearing.h i ≡ true
+  single_heard i e = ((single_port i).forth (at_some _ i e)).is
 
-  pub unheard_single : (i : ℕ) → i < nobody → has hearing.h i ≡ false → eqb i (effect_of Bus.Nothing hearing activity).single ≡ false
-  unheard_single i b u = ne_eqb i _ (λ e. true≢false (sym ((single_port i b).forth (sym e)).is ∙ u))
+  pub unheard_single : (i : ℕ) → has hearing.h i ≡ false → is_at (effect_of Bus.Nothing hearing activity).single i ≡ false
+  unheard_single i u = not_at _ i (λ e. true≢false (sym ((single_port i).forth e).is ∙ u))
 
   transmitted : (heard : Heard) → heard_of hearing.h ≡ heard
       → (effect_of Bus.Nothing hearing activity).transmit_collision ≡ (effect_with Bus.Nothing heard hearing activity).transmit_collision

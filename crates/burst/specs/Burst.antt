@@ -6,12 +6,12 @@
 --   signalled p activity   == port p is AUI, and carries its collision signal
 --   word_of_one p activity   == the word for the single heard port p
 --   effect_with bus heard hearing activity == what follows: the word, the ports that something goes out to, the ports that collide, the single heard port
---                             or nobody, whether it is a collision for the credits, and whether two or more are heard
+--                             or none, whether it is a collision for the credits, and whether two or more are heard
 --   effect_of bus hearing activity == the same, for the hearing's own count
 -- Assumes nothing.
-use Rattle.std.specs.Prelude.{ℕ, Bool, true, false, cond, not, ◌&&◌, ◌||◌, eqb}
+use Rattle.std.specs.Prelude.{ℕ, Bool, true, false, cond, not, ◌&&◌, ◌||◌, Some, None, eqb}
 use Rattle.std.specs.Int.Count.{ones, count_trailing_zeros}
-use Rattle.ports.specs.Sets.{aui, nobody, has, set_of}
+use Rattle.ports.specs.Sets.{aui, has, set_of}
 use Rattle.burst.specs.declared.Activity.{Activity}
 use Rattle.burst.specs.declared.Bus.{Bus}
 use Rattle.burst.specs.declared.Word.{Word}
@@ -41,7 +41,7 @@ effect_with Bus.Nothing Heard.Nothing hearing activity = record {
   word = Nil;
   out = set_of (λ i. false);
   collided = set_of (λ i. activity.collision_signal && eqb i aui && has hearing.t i);
-  single = nobody;
+  single = None;
   collision = false;
   transmit_collision = false;
 }
@@ -49,7 +49,7 @@ effect_with Bus.Nothing (Heard.One p) hearing activity = record {
   word = word_of_one p activity;
   out = set_of (λ i. has hearing.t i && not (eqb i p));
   collided = set_of (λ i. has hearing.e i && has hearing.t i && (signalled p activity || not (eqb i p)));
-  single = p;
+  single = Some p;
   collision = signalled p activity;
   transmit_collision = false;
 }
@@ -57,7 +57,7 @@ effect_with Bus.Nothing Heard.More hearing activity = record {
   word = Jam;
   out = set_of (λ i. has hearing.t i);
   collided = set_of (λ i. has hearing.e i && has hearing.t i);
-  single = nobody;
+  single = None;
   collision = true;
   transmit_collision = true;
 }

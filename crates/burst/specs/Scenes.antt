@@ -14,9 +14,9 @@
 --   reported        == what the definitions make of one
 --   reports         == the rows
 -- Assumes nothing.
-use Rattle.std.specs.Prelude.{ℕ, Bool, true, false, List, [], ◌∷◌}
+use Rattle.std.specs.Prelude.{ℕ, Bool, true, false, Option, Some, None, List, [], ◌∷◌}
 use Rattle.std.specs.Int.Bits.{bit_and}
-use Rattle.ports.specs.Sets.{aui, nobody, set_of}
+use Rattle.ports.specs.Sets.{aui, set_of}
 use Rattle.management.specs.declared.Status.{Status}
 use Rattle.burst.specs.declared.Activity.{Activity}
 use Rattle.burst.specs.declared.Bus.{Bus}
@@ -52,7 +52,7 @@ pub record Scene : Type 0 where
   pub activity : Activity
   pub wanted : Followed
 
-abbrev pub scene : ℕ → Activity → Word → ℕ → ℕ → ℕ → Bool → Bool → ℕ → ℕ → ℕ → ℕ → Scene
+abbrev pub scene : ℕ → Activity → Word → ℕ → ℕ → Option ℕ → Bool → Bool → ℕ → ℕ → ℕ → ℕ → Scene
 scene listened activity word out colliding single collision transmitted clean lasting standard alternate = record {
   listened = listened;
   activity = activity;
@@ -87,19 +87,19 @@ found row =
 -- TP2, and alone
 abbrev pub scenes : List Scene
 scenes =
-    scene 0b100000111 (activity_of 0b000000001 false false 2000 0) Rep 0b100000110 0b000000000 0 false false 0b100000111 0b100000111 0b100000111 0b100000110
-    ∷ scene 0b100000111 (activity_of 0b000000001 false false 512 0) Rep 0b100000110 0b000000000 0 false false 0b100000111 0b000000000 0b000000000 0b000000000
-    ∷ scene 0b100000111 (activity_of 0b000000001 false false 513 0) Rep 0b100000110 0b000000000 0 false false 0b100000111 0b100000111 0b100000111 0b100000110
-    ∷ scene 0b100000111 (activity_of 0b000000011 false false 2000 0) Jam 0b100000111 0b000000011 nobody true true 0b000000000 0b000000000 0b000000000 0b000000000
-    ∷ scene 0b100000111 (activity_of 0b000001011 false false 2000 0) Jam 0b100000111 0b000000011 nobody true true 0b000000000 0b000000000 0b000000000 0b000000000
-    ∷ scene 0b100000111 (activity_of 0b000000001 true false 2000 0) Jam 0b100000110 0b000000000 0 false false 0b000000000 0b000000000 0b000000000 0b000000000
-    ∷ scene 0b100000111 (activity_of 0b100000000 false true 2000 0) Jam 0b000000111 0b100000000 aui true false 0b000000000 0b000000000 0b000000000 0b000000000
-    ∷ scene 0b100000110 (activity_of 0b000000001 false false 2000 0) Nil 0b000000000 0b000000000 nobody false false 0b000000001 0b000000001 0b000000001 0b000000000
-    ∷ scene 0b100000110 (activity_of 0b000000001 false false 512 0) Nil 0b000000000 0b000000000 nobody false false 0b000000001 0b000000000 0b000000000 0b000000000
-    ∷ scene 0b100000110 (activity_of 0b000000001 false false 513 0) Nil 0b000000000 0b000000000 nobody false false 0b000000001 0b000000001 0b000000001 0b000000000
-    ∷ scene 0b100000110 (activity_of 0b000000101 false false 2000 0) Rep 0b100000011 0b000000001 2 false false 0b100000110 0b100000110 0b100000110 0b100000010
-    ∷ scene 0b000000111 (activity_of 0b000000100 false true 2000 0) Rep 0b100000011 0b100000000 2 false false 0b000000111 0b000000111 0b000000111 0b000000011
-    ∷ scene 0b000000111 (activity_of 0b000000000 false true 2000 0) Nil 0b000000000 0b100000000 nobody false false 0b000000000 0b000000000 0b000000000 0b000000000
+    scene 0b100000111 (activity_of 0b000000001 false false 2000 0) Rep 0b100000110 0b000000000 (Some 0) false false 0b100000111 0b100000111 0b100000111 0b100000110
+    ∷ scene 0b100000111 (activity_of 0b000000001 false false 512 0) Rep 0b100000110 0b000000000 (Some 0) false false 0b100000111 0b000000000 0b000000000 0b000000000
+    ∷ scene 0b100000111 (activity_of 0b000000001 false false 513 0) Rep 0b100000110 0b000000000 (Some 0) false false 0b100000111 0b100000111 0b100000111 0b100000110
+    ∷ scene 0b100000111 (activity_of 0b000000011 false false 2000 0) Jam 0b100000111 0b000000011 None true true 0b000000000 0b000000000 0b000000000 0b000000000
+    ∷ scene 0b100000111 (activity_of 0b000001011 false false 2000 0) Jam 0b100000111 0b000000011 None true true 0b000000000 0b000000000 0b000000000 0b000000000
+    ∷ scene 0b100000111 (activity_of 0b000000001 true false 2000 0) Jam 0b100000110 0b000000000 (Some 0) false false 0b000000000 0b000000000 0b000000000 0b000000000
+    ∷ scene 0b100000111 (activity_of 0b100000000 false true 2000 0) Jam 0b000000111 0b100000000 (Some aui) true false 0b000000000 0b000000000 0b000000000 0b000000000
+    ∷ scene 0b100000110 (activity_of 0b000000001 false false 2000 0) Nil 0b000000000 0b000000000 None false false 0b000000001 0b000000001 0b000000001 0b000000000
+    ∷ scene 0b100000110 (activity_of 0b000000001 false false 512 0) Nil 0b000000000 0b000000000 None false false 0b000000001 0b000000000 0b000000000 0b000000000
+    ∷ scene 0b100000110 (activity_of 0b000000001 false false 513 0) Nil 0b000000000 0b000000000 None false false 0b000000001 0b000000001 0b000000001 0b000000000
+    ∷ scene 0b100000110 (activity_of 0b000000101 false false 2000 0) Rep 0b100000011 0b000000001 (Some 2) false false 0b100000110 0b100000110 0b100000110 0b100000010
+    ∷ scene 0b000000111 (activity_of 0b000000100 false true 2000 0) Rep 0b100000011 0b100000000 (Some 2) false false 0b000000111 0b000000111 0b000000111 0b000000011
+    ∷ scene 0b000000111 (activity_of 0b000000000 false true 2000 0) Nil 0b000000000 0b100000000 None false false 0b000000000 0b000000000 0b000000000 0b000000000
     ∷ []
 
 abbrev pub collided_with : ℕ → Activity → ℕ

@@ -3,11 +3,11 @@
 // The ports' own steps are in the crates port and repeater.
 #![tactic(auto)]
 
-ghost use Rattle.std.specs.Prelude.{◌≡◌, ◌&&◌, eqb};
-ghost use Rattle.ports.specs.Sets.{set_of};
+ghost use Rattle.std.specs.Prelude.{◌≡◌, ◌&&◌};
+ghost use Rattle.ports.specs.Sets.{is_at, set_of};
 ghost use Rattle.burst.specs.Burst.{in_e, heard_of, signalled, word_of_one, effect_with, effect_of};
 ghost use Rattle.burst.specs.Marks.{marks_of};
-ghost use Rattle.burst.specs.Clean.{is_jam, is_rep, data_to, clean_at, lasting_at, reconnecting_at};
+ghost use Rattle.burst.specs.Clean.{data_to, clean_at, lasting_at, reconnecting_at};
 
 use management::Status;
 use port::Port;
@@ -31,7 +31,7 @@ pub enum Bus {
 }
 
 // What the repeater does with a burst: nothing, data or jam.
-#[derive(Clone, Copy)]
+#[derive(Clone, Copy, PartialEq, Eq)]
 pub enum Word {
     Nil,
     Rep,
@@ -62,7 +62,7 @@ pub struct Effect {
     pub word: Word,
     pub out: u16,
     pub collided: u16,
-    pub single: usize,
+    pub single: Option<usize>,
     pub collision: bool,
     pub transmit_collision: bool,
 }
@@ -72,90 +72,89 @@ impl Activity {
     pub const JABBER_ABOVE: u32 = 65536;
 
     // E.
+    #[tactic(auto, using(crate::proofs::BurstLaws::active_signal, crate::proofs::BurstLaws::active_mask))]
     pub fn active(self) -> u16
         ensures { result ≡ set_of (in_e self) }
     {
         if self.collision_signal {
-            return self.mask | ports::only(ports::AUI);
+            self.mask | ports::only(ports::AUI)
+        } else {
+            self.mask
         }
-        self.mask
     }
 
     // Whether the heard port, alone, makes a collision: AUI with its collision signal.
     fn signalled(self, port: usize) -> bool
         ensures { result ≡ signalled port self }
     {
-        if port == ports::AUI {
-            return self.collision_signal;
-        }
-        false
+        port == ports::AUI && self.collision_signal
     }
 
     fn word_of_one(self, port: usize) -> Word
         ensures { result ≡ word_of_one port self }
     {
-        if self.signalled(port) {
-            return Word::Jam;
+        if self.signalled(port) || self.rate_error {
+            Word::Jam
+        } else {
+            Word::Rep
         }
-        if self.rate_error {
-            return Word::Jam;
-        }
-        Word::Rep
     }
 
+    #[tactic(auto, using(crate::proofs::BurstLaws::collided_signal, crate::proofs::BurstLaws::collided_none))]
     fn collided_with_none(self, hearing: Hearing) -> u16
         ensures { result ≡ (effect_with Bus.Nothing Heard.Nothing hearing self).collided }
     {
         if self.collision_signal {
-            return ports::only(ports::AUI) & hearing.t;
+            ports::only(ports::AUI) & hearing.t
+        } else {
+            0
         }
-        0
     }
 
+    #[tactic(auto, using(crate::proofs::BurstLaws::collided_one_all, crate::proofs::BurstLaws::collided_one_rest))]
     fn collided_with_one(self, port: usize, hearing: Hearing) -> u16
         ensures { result ≡ (effect_with Bus.Nothing (Heard.One port) hearing self).collided }
     {
         let both = hearing.e & hearing.t;
         if self.signalled(port) {
-            return both;
+            both
+        } else {
+            ports::less(both, ports::only(port))
         }
-        ports::less(both, ports::only(port))
     }
 
     // What follows where no port is heard.
+    #[tactic(auto, using(crate::proofs::BurstLaws::with_none))]
     fn with_none(self, hearing: Hearing) -> Effect
         ensures { result ≡ effect_with Bus.Nothing Heard.Nothing hearing self }
     {
-        let collided = self.collided_with_none(hearing);
         Effect {
             word: Word::Nil,
             out: 0,
-            collided: collided,
-            single: ports::NONE,
+            collided: self.collided_with_none(hearing),
+            single: None,
             collision: false,
             transmit_collision: false,
         }
     }
 
     // What follows where one port is heard.
+    #[tactic(auto, using(crate::proofs::BurstLaws::with_one))]
     fn with_one(self, port: usize, hearing: Hearing) -> Effect
         ensures { result ≡ effect_with Bus.Nothing (Heard.One port) hearing self }
     {
-        let word = self.word_of_one(port);
-        let out = ports::less(hearing.t, ports::only(port));
-        let collided = self.collided_with_one(port, hearing);
-        let collision = self.signalled(port);
         Effect {
-            word: word,
-            out: out,
-            collided: collided,
-            single: port,
-            collision: collision,
+            word: self.word_of_one(port),
+            out: ports::less(hearing.t, ports::only(port)),
+            collided: self.collided_with_one(port, hearing),
+            single: Some(port),
+            collision: self.signalled(port),
             transmit_collision: false,
         }
     }
 
     // What follows where two or more are heard.
+    #[tactic(auto, using(crate::proofs::BurstLaws::with_more))]
     fn with_more(self, hearing: Hearing) -> Effect
         ensures { result ≡ effect_with Bus.Nothing Heard.More hearing self }
     {
@@ -163,43 +162,32 @@ impl Activity {
             word: Word::Jam,
             out: hearing.t,
             collided: hearing.e & hearing.t,
-            single: ports::NONE,
+            single: None,
             collision: true,
             transmit_collision: true,
         }
     }
 
-    // What follows while the expansion bus brings nothing.
-    fn undisturbed(self, hearing: Hearing) -> Effect
-        ensures { result ≡ effect_of Bus.Nothing hearing self }
-    {
-        let heard = hearing.heard;
-        match heard {
-            Heard::Nothing => self.with_none(hearing),
-            Heard::One(port) => self.with_one(port, hearing),
-            Heard::More => self.with_more(hearing),
-        }
-    }
-
     // The second half together.
+    #[tactic(auto, unfolding(crate::specs::Burst::effect_of))]
     pub fn effect(self, bus: Bus, hearing: Hearing) -> Effect
         ensures { result ≡ effect_of bus hearing self }
     {
-        match bus {
-            Bus::Nothing => self.undisturbed(hearing),
+        match (bus, hearing.heard) {
+            (Bus::Nothing, Heard::Nothing) => self.with_none(hearing),
+            (Bus::Nothing, Heard::One(port)) => self.with_one(port, hearing),
+            (Bus::Nothing, Heard::More) => self.with_more(hearing),
         }
     }
-}
 
-impl Activity {
     // The single heard port if it carries a bit rate error.
-    fn mistimed(self, single: usize) -> u16
-        ensures { result ≡ set_of (λ i. self.rate_error && eqb i single) }
+    fn mistimed(self, single: Option<usize>) -> u16
+        ensures { result ≡ set_of (λ i. self.rate_error && is_at single i) }
     {
-        if self.rate_error {
-            return ports::only(single);
+        match single {
+            Some(port) if self.rate_error => ports::only(port),
+            _ => 0,
         }
-        0
     }
 
     // The status bits that the burst sets.
@@ -207,99 +195,70 @@ impl Activity {
         ensures { result ≡ marks_of effect self }
     {
         let rates = self.mistimed(effect.single);
-        let aui = ports::contains(rates, ports::AUI);
-        let to_aui = ports::contains(effect.out, ports::AUI);
         Status {
-            rate: aui,
+            rate: ports::contains(rates, ports::AUI),
             sqe: self.sqe_test,
-            loopback: self.loopback_missing & to_aui,
+            loopback: self.loopback_missing && ports::contains(effect.out, ports::AUI),
             rates: (rates % 256) as u8,
-            mjlp: (Activity::JABBER_ABOVE < self.d) & (effect.out != 0),
+            mjlp: Activity::JABBER_ABOVE < self.d && effect.out != 0,
         }
     }
 }
 
 // What the count of ones of a mask of heard ports says.
+#[tactic(auto, unfolding(crate::specs::Burst::heard_of))]
 pub fn count_heard(h: u16) -> Heard
     ensures { result ≡ heard_of h }
 {
-    let n = u16::count_ones(h);
-    if n == 0 {
-        return Heard::Nothing;
-    }
-    if n == 1 {
-        return Heard::One(place(u16::trailing_zeros(h)));
-    }
-    Heard::More
-}
-
-fn place(i: u32) -> usize
-    ensures { result ≡ i }
-{
-    i as usize
-}
-
-fn is_jam(word: Word) -> bool
-    ensures { result ≡ is_jam word }
-{
-    match word {
-        Word::Nil => false,
-        Word::Rep => false,
-        Word::Jam => true,
-    }
-}
-
-fn is_rep(word: Word) -> bool
-    ensures { result ≡ is_rep word }
-{
-    match word {
-        Word::Nil => false,
-        Word::Rep => true,
-        Word::Jam => false,
+    match h.count_ones() {
+        0 => Heard::Nothing,
+        1 => Heard::One(h.trailing_zeros() as usize),
+        _ => Heard::More,
     }
 }
 
 impl Effect {
     // The ports that data goes out to.
+    #[tactic(auto, using(crate::proofs::CleanLaws::data_rep, crate::proofs::CleanLaws::data_none))]
     fn data(self) -> u16
         ensures { result ≡ set_of (data_to self) }
     {
-        let word = self.word;
-        if is_rep(word) {
-            return self.out;
-        }
-        0
+        if self.word == Word::Rep { self.out } else { 0 }
     }
 
     // The ports that the burst is clean for.
+    #[tactic(auto, using(crate::proofs::CleanLaws::clean_jam, crate::proofs::CleanLaws::clean_rest))]
     fn clean(self, hearing: Hearing) -> u16
         ensures { result ≡ set_of (clean_at hearing self) }
     {
-        let word = self.word;
-        if is_jam(word) {
-            return 0;
+        if self.word == Word::Jam {
+            0
+        } else {
+            ports::less(hearing.e | self.data(), self.collided)
         }
-        ports::less(hearing.e | self.data(), self.collided)
     }
 
     // The ports that it is clean for and lasts.
+    #[tactic(auto, using(crate::proofs::CleanLaws::lasting_long, crate::proofs::CleanLaws::lasting_short))]
     pub fn lasting(self, hearing: Hearing, activity: Activity) -> u16
         ensures { result ≡ set_of (lasting_at hearing self activity) }
     {
-        let clean = self.clean(hearing);
         if Port::LASTING_ABOVE < activity.d {
-            return clean;
+            self.clean(hearing)
+        } else {
+            0
         }
-        0
     }
 
     // Of these, the ones that it connects again if they are partitioned.
+    #[tactic(auto, using(crate::proofs::CleanLaws::both_set, crate::proofs::CleanLaws::reconnecting_all), unfolding(crate::specs::Clean::reconnecting_at))]
     pub fn reconnecting(self, lasting: u16, alternate: bool) -> u16
         ensures { result ≡ set_of (reconnecting_at self lasting alternate) }
     {
         if alternate {
-            return lasting & self.data();
+            lasting & self.data()
+        } else {
+            lasting
         }
-        lasting
     }
 }

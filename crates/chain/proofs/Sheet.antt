@@ -9,11 +9,9 @@
 --   piece_is_no_reading == two bytes are no block of whole readings
 use Prim.Native.Nat.{ℕ}
 use mathlib.Core.Path.{◌≡◌, refl}
-use mathlib.Core.Bool.{true}
 use mathlib.Core.List.{List, [], ◌∷◌, ◌++◌}
 use native.Mathlib.Omega.{arith}
-use Rattle.attributes.specs.declared.octets.Total.{Total}
-use Rattle.attributes.specs.declared.octets.Total.TheVariants.{Sum, TooLarge}
+use Rattle.std.specs.Prelude.{Option, Some, None}
 use Rattle.attributes.specs.Octets.{total_after, total_of, answered, total_on}
 use Rattle.chain.specs.declared.Chain.{Chain}
 use Rattle.chain.specs.Chain.{readings_in, rest_of, none, onward, chain_of}
@@ -30,30 +28,30 @@ the_readings = (refl, refl, refl, refl, refl)
 pub the_rests : (rest_of [] ≡ 0) × (rest_of (1 ∷ 2 ∷ 3 ∷ 4 ∷ []) ≡ 0) × (rest_of (1 ∷ 2 ∷ 3 ∷ 4 ∷ 5 ∷ 6 ∷ 7 ∷ []) ≡ 3)
 the_rests = (refl, refl, refl)
 
--- begun, with this sum and this last reading
-abbrev at : Total → ℕ → Chain
-at t r = record { total = t; last = r; begun = true }
+-- with this sum and this last reading
+abbrev at : Option ℕ → ℕ → Chain
+at t r = record { total = t; last = Some r }
 
 pub the_chains : (onward none [] ≡ none)
-    × (onward none (7 ∷ []) ≡ at (Sum 0) 7)
-    × (onward none (4294967295 ∷ 2 ∷ 1 ∷ []) ≡ at (Sum 4294967298) 1)
-    × (onward (onward none (4294967295 ∷ [])) (2 ∷ 1 ∷ []) ≡ at (Sum 4294967298) 1)
-    × (onward (onward none (4294967295 ∷ 2 ∷ [])) (1 ∷ []) ≡ at (Sum 4294967298) 1)
-    × (onward (onward none []) (0 ∷ 4294967295 ∷ 0 ∷ []) ≡ at (Sum 4294967296) 0)
-    × (onward (at (Sum 5) 7) [] ≡ at (Sum 5) 7)
+    × (onward none (7 ∷ []) ≡ at (Some 0) 7)
+    × (onward none (4294967295 ∷ 2 ∷ 1 ∷ []) ≡ at (Some 4294967298) 1)
+    × (onward (onward none (4294967295 ∷ [])) (2 ∷ 1 ∷ []) ≡ at (Some 4294967298) 1)
+    × (onward (onward none (4294967295 ∷ 2 ∷ [])) (1 ∷ []) ≡ at (Some 4294967298) 1)
+    × (onward (onward none []) (0 ∷ 4294967295 ∷ 0 ∷ []) ≡ at (Some 4294967296) 0)
+    × (onward (at (Some 5) 7) [] ≡ at (Some 5) 7)
 unfolding onward total_on total_of total_after answered
 the_chains = (refl, refl, refl, refl, refl, refl, refl)
 
 pub the_wholes : (chain_of [] ≡ none)
-    × (chain_of (7 ∷ []) ≡ at (Sum 0) 7)
-    × (chain_of (4294967295 ∷ 2 ∷ 1 ∷ []) ≡ at (Sum 4294967298) 1)
-    × (chain_of (0 ∷ 4294967295 ∷ 0 ∷ []) ≡ at (Sum 4294967296) 0)
+    × (chain_of (7 ∷ []) ≡ at (Some 0) 7)
+    × (chain_of (4294967295 ∷ 2 ∷ 1 ∷ []) ≡ at (Some 4294967298) 1)
+    × (chain_of (0 ∷ 4294967295 ∷ 0 ∷ []) ≡ at (Some 4294967296) 0)
 unfolding total_of total_after answered
 the_wholes = (refl, refl, refl, refl)
 
-pub the_edge : (onward (at (Sum 18446744073709551614) 4) (5 ∷ 5 ∷ []) ≡ at (Sum 18446744073709551615) 5)
-    × (onward (at (Sum 18446744073709551614) 4) (6 ∷ []) ≡ at TooLarge 6)
-    × (onward (at TooLarge 6) (6 ∷ 7 ∷ []) ≡ at TooLarge 7)
+pub the_edge : (onward (at (Some 18446744073709551614) 4) (5 ∷ 5 ∷ []) ≡ at (Some 18446744073709551615) 5)
+    × (onward (at (Some 18446744073709551614) 4) (6 ∷ []) ≡ at None 6)
+    × (onward (at None 6) (6 ∷ 7 ∷ []) ≡ at None 7)
 unfolding onward total_on total_after answered
 the_edge = (refl, refl, refl)
 
@@ -67,9 +65,9 @@ second = 2 ∷ 0 ∷ 0 ∷ 0 ∷ []
 abbrev third : List ℕ
 third = 1 ∷ 0 ∷ 0 ∷ 0 ∷ 9 ∷ 9 ∷ []
 
-pub the_blocks : (blocks_of none ((first ++ second ++ third) ∷ []) ≡ at (Sum 4294967298) 1)
-    × (blocks_of none (first ∷ (second ++ third) ∷ []) ≡ at (Sum 4294967298) 1)
-    × (blocks_of none (first ∷ second ∷ third ∷ []) ≡ at (Sum 4294967298) 1)
+pub the_blocks : (blocks_of none ((first ++ second ++ third) ∷ []) ≡ at (Some 4294967298) 1)
+    × (blocks_of none (first ∷ (second ++ third) ∷ []) ≡ at (Some 4294967298) 1)
+    × (blocks_of none (first ∷ second ∷ third ∷ []) ≡ at (Some 4294967298) 1)
 unfolding blocks_of readings_in onward total_on total_of total_after answered
 the_blocks = (refl, refl, refl)
 

@@ -1,2 +1,3 @@
 -- The tables of the change bits, computed.
 pub mod Sheet
+mod Registers

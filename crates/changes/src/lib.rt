@@ -4,8 +4,13 @@
 ghost use Rattle.std.specs.Prelude.{◌≡◌, get_or, set};
 ghost use Rattle.changes.specs.Changes.{bit7, tp_byte, aui_bit, events_of, noted, kept_bits, pending};
 
+use std::array;
+
 // How many registers there are, with R 5, which has no bits.
 pub const REGISTERS: usize = 8;
+
+// The registers that have bits.
+const HELD: [usize; REGISTERS - 1] = [0, 1, 2, 3, 4, 6, 7];
 
 // The bit of a register that has one bit alone.
 const BIT_7: u8 = 128;
@@ -32,25 +37,19 @@ fn aui_bit(mask: u16) -> u8
 }
 
 // The bits that events set, register by register.
+#[tactic(auto, unfolding(crate::specs::Changes::events_of))]
 pub fn events(partition: u16, link: u16, loopback: bool, sqe: bool, address: u16) -> [u8; REGISTERS]
     ensures { result ≡ events_of partition link loopback sqe address }
 {
-    let tp_partition = tp_byte(partition);
-    let aui_partition = aui_bit(partition);
-    let tp_link = tp_byte(link);
-    let aui_loopback = bit_7(loopback);
-    let aui_sqe = bit_7(sqe);
-    let tp_address = tp_byte(address);
-    let aui_address = aui_bit(address);
     [
-        tp_partition,
-        aui_partition,
-        tp_link,
-        aui_loopback,
-        aui_sqe,
+        tp_byte(partition),
+        aui_bit(partition),
+        tp_byte(link),
+        bit_7(loopback),
+        bit_7(sqe),
         0,
-        tp_address,
-        aui_address,
+        tp_byte(address),
+        aui_bit(address),
     ]
 }
 
@@ -58,54 +57,42 @@ pub fn events(partition: u16, link: u16, loopback: bool, sqe: bool, address: u16
 pub fn note(changes: [u8; REGISTERS], events: [u8; REGISTERS]) -> [u8; REGISTERS]
     ensures { result ≡ noted events changes }
 {
-    let mut out = changes;
-    for i in 0..REGISTERS {
-        out[i] = out[i] | events[i];
-    }
-    out
+    array::from_fn(|r| changes[r] | events[r])
 }
 
 // What a write to the enables of R keeps.
+#[tactic(auto, unfolding(crate::specs::Changes::kept_bits))]
 pub fn keep_bits(register: u8, byte: u8) -> u8
     ensures { result ≡ kept_bits register byte }
 {
-    if (register == 1) | (register == 3) | (register == 4) | (register == 7) {
-        return byte & BIT_7;
+    if matches!(register, 1 | 3 | 4 | 7) {
+        byte & BIT_7
+    } else {
+        byte
     }
-    byte
 }
 
-// Whether some change bit and its enable are both one.
+// Whether some change bit and its enable are both one. R 5 has no bits.
 pub fn is_pending(changes: [u8; REGISTERS], enables: [u8; REGISTERS]) -> bool
     ensures { result ≡ pending changes enables }
 {
-    ((changes[0] & enables[0]) != 0)
-        | ((changes[1] & enables[1]) != 0)
-        | ((changes[2] & enables[2]) != 0)
-        | ((changes[3] & enables[3]) != 0)
-        | ((changes[4] & enables[4]) != 0)
-        | ((changes[6] & enables[6]) != 0)
-        | ((changes[7] & enables[7]) != 0)
+    HELD.iter().any(|&r| changes[r] & enables[r] != 0)
 }
 
 // The byte of register R among eight, or 0 past the last.
 pub fn bits_at(bits: [u8; REGISTERS], register: usize) -> u8
     ensures { result ≡ get_or bits register 0 }
 {
-    if register < REGISTERS {
-        return bits[register];
-    }
-    0
+    bits.get(register).copied().unwrap_or(0)
 }
 
 // The bytes with another at R.
-pub fn with_bits(bits: [u8; REGISTERS], register: usize, byte: u8) -> [u8; REGISTERS]
+pub fn with_bits(mut bits: [u8; REGISTERS], register: usize, byte: u8) -> [u8; REGISTERS]
     ensures { result ≡ set bits register byte }
 {
-    let mut out = bits;
+    // By index: of an array that `get_mut` lent from, a proof knows no more than the length afterwards.
     if register < REGISTERS {
-        out[register] = byte;
-        return out;
+        bits[register] = byte;
     }
-    out
+    bits
 }

@@ -1,13 +1,15 @@
 -- The cases of the chip's definitions, as the code asks them, and what is chosen at power-up. The tables are computed first. Assumes nothing.
---   moved_still     == where no port's partition state changed
+--   moved_still, moved_quietly == where no port's partition state changed, as by link pulses and ticks
 --   fits_seven, seven_fits == a limit fits exactly if it is one of the seven
 --   refusal_fit, refusal_other, settled_fit, settled_other == what power-up makes of it
 --   settled_in      == the chip goes by one of the seven, whatever was asked for
 use Rattle.std.proofs.Common.{◌≡◌, ℕ, ◌≤◌, Bool, true, false, cond, leb, refl, arith, le-leb, leb-true}
 use lib.Bits.{xor_self}
+use Rattle.ports.specs.declared.Quiet.{Quiet}
 use Rattle.ports.proofs.Sets.{and_first, and_second}
 use Rattle.repeater.specs.declared.Repeater.{Repeater}
-use Rattle.repeater.specs.Repeater.{partitioned_of}
+use Rattle.repeater.specs.Repeater.{partitioned_of, quieted}
+use Rattle.repeater.proofs.Kept.{partitioned_quieted}
 use Rattle.attributes.specs.Credits.{short_from, short_to}
 use Rattle.chip.specs.declared.Core.{Core}
 use Rattle.chip.specs.declared.Choices.{Choices}
@@ -19,6 +21,10 @@ pub moved_still : (c : Core) (q : Repeater) (loopback sqe : Bool) (address : ℕ
     → moved_by c q 0 loopback sqe address ≡ moved c q loopback sqe address
 unfolding moved
 moved_still c q loopback sqe address e = rw (e, xor_self (partitioned_of c.repeater))
+
+-- link pulses and ticks change none
+pub moved_quietly : (c : Core) (quiet : Quiet) → moved_by c (quieted quiet c.repeater) 0 false false 0 ≡ moved c (quieted quiet c.repeater) false false 0
+moved_quietly c quiet = moved_still c (quieted quiet c.repeater) false false 0 (partitioned_quieted quiet c.repeater)
 
 abbrev pub Seven : ℕ → Type 0
 Seven limit = (short_from ≤ limit) × (limit ≤ short_to)

@@ -5,12 +5,11 @@
 --   rest_kept           == a move leaves enables, counters, interface error and G
 --   totals              == Transmit Collisions by one, Total Octets by the octets, each by itself, and round at 2^32
 use Rattle.std.proofs.Common.{◌≡◌, true, false, [], ◌∷◌, map, refl}
-use Rattle.ports.specs.Sets.{has}
 use Rattle.repeater.specs.Reset.{power_up}
 use Rattle.repeater.proofs.Computing.{repeating}
 use Rattle.changes.specs.Changes.{events_of, noted}
 use Rattle.attributes.specs.Nine.{nothing_counted, all_counters}
-use Rattle.chip.specs.Chip.{refusal_of, settled_of, core_up, chip_up, core_reset, with_repeater, moved, totalled}
+use Rattle.chip.specs.Chip.{refusal_of, settled_of, core_up, chip_up, core_reset, moved, totalled}
 use Rattle.chip.specs.Sheet.{kept, limits, given, up, linked, collided_aui, used, changing, at}
 
 pub core_up_lem : core_up (kept 7 9)

@@ -1,10 +1,11 @@
 -- The chip as it is kept, and the chip of specs/Chip that it stands for: the core is the same, and the attributes are those of attributes/specs/Flat.
---   holding c flat addresses == a chip with this core, its attributes kept in these two arrays
+--   holding c flat           == a chip with this core, its attributes kept so
 --   chip_of, supply_of         == the chip, and what power-up is given, that what is kept stands for; powered_by == what power-up gives
---   Sized c                  == its arrays have as many places as their type says
+--   Sized c                    == its arrays have as many places as their type says
 -- Assumes nothing.
-use Rattle.std.specs.Prelude.{◌≡◌, ℕ, List, length}
-use Rattle.attributes.specs.Flat.{nine_of, nine_in, flat_size, spots_size}
+use Rattle.std.specs.Prelude.{◌≡◌, length}
+use Rattle.attributes.specs.declared.Flat.{Flat}
+use Rattle.attributes.specs.Flat.{nine_in, flat_size, spots_size}
 use Rattle.chip.specs.declared.Core.{Core}
 use Rattle.chip.specs.declared.Supply.{Supply}
 use Rattle.chip.specs.declared.Chip.{Chip}
@@ -13,11 +14,11 @@ use Rattle.chip.specs.declared.FlatChip.{FlatChip}
 use Rattle.chip.specs.declared.Powered.{Powered}
 use Rattle.chip.specs.declared.FlatPowered.{FlatPowered}
 
-abbrev pub holding : Core → List ℕ → List ℕ → Chip
-holding c flat addresses = record { core = c; attributes = nine_of flat addresses }
+abbrev pub holding : Core → Flat → Chip
+holding c flat = record { core = c; attributes = nine_in flat }
 
 abbrev pub chip_of : FlatChip → Chip
-chip_of s = holding s.core s.flat.counters s.flat.addresses
+chip_of s = holding s.core s.flat
 
 abbrev pub supply_of : FlatSupply → Supply
 supply_of given = record { attributes = nine_in given.flat; kept = given.kept }

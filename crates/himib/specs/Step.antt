@@ -3,7 +3,7 @@
 --   taken asked source s h == the chip, the host's record and the answer after what a record asks for
 --   step_of s h bs          == the same after the bytes bs
 -- Assumes nothing.
-use Rattle.std.specs.Prelude.{ℕ, false, cond, List, ltb}
+use Rattle.std.specs.Prelude.{ℕ, false, cond, List, Option, Some, None, ltb}
 use Rattle.ports.specs.Sets.{port_count}
 use Rattle.record.specs.declared.Asked as Ask
 use Rattle.record.specs.declared.Asked.TheVariants as ask
@@ -26,8 +26,9 @@ abbrev pub after_burst : Host → Credited → Stepped
 after_burst h t = record { chip = record { core = t.core; attributes = t.attributes }; host = h; answer = t.answer }
 
 -- a completed address write is no change: nothing is counted or noted
-unfoldable pub addressed_at : ℕ → List ℕ → Nine → Nine
-addressed_at port source nine = cond (ltb port port_count) (readdressed port source nine) nine
+unfoldable pub addressed_at : Option ℕ → List ℕ → Nine → Nine
+addressed_at (Some port) source nine = cond (ltb port port_count) (readdressed port source nine) nine
+addressed_at None source nine = nine
 
 abbrev pub after_access : Nine → Acted → Stepped
 after_access nine t =

@@ -3,18 +3,17 @@
 #![tactic(auto)]
 
 ghost use Rattle.std.specs.Prelude.{◌≡◌};
-ghost use Rattle.chip.specs.Flat.{holding, chip_of};
+ghost use Rattle.chip.specs.Flat.{chip_of};
 ghost use Rattle.himib.specs.Bursts.{activity_of};
 ghost use Rattle.himib.specs.Step.{taken, step_of};
-ghost use Rattle.himib.specs.Flat.{stepped_by, Bursts, Follows};
+ghost use Rattle.himib.specs.Flat.{stepped_by, Bursts, Addressed, Follows};
 
-use access::Acted;
 use answer::Answer;
 use attributes::{Due, Flat, Met, Nine};
 use burst::Activity;
 use chip::{Chip, Core, FlatChip};
 use host::Host;
-use record::{Access, Asked, Burst};
+use record::{Asked, Burst};
 
 // What the rules speak of: after a burst, but for the attributes, the core, what is to be credited, and the answer;
 #[derive(Clone, Copy)]
@@ -40,7 +39,7 @@ pub struct Stepped {
     pub answer: Answer,
 }
 
-// What the functions give back. After a burst: the counters and addresses stand in the arrays that were lent.
+// What the functions give back. After a burst: the counters and addresses stand in what was lent.
 #[derive(Clone, Copy)]
 pub struct Spoken {
     pub core: Core,
@@ -55,7 +54,7 @@ pub struct Followed {
     pub answer: Answer,
 }
 
-// and by value.
+// and by value. Left and Stepped are two types for the reason that the crate chip gives of Chip and FlatChip.
 #[derive(Clone, Copy)]
 pub struct Left {
     pub chip: FlatChip,
@@ -63,7 +62,32 @@ pub struct Left {
     pub answer: Answer,
 }
 
-// The part of a burst record that is the repeater's.
+impl Followed {
+    // Done, with nothing to tell.
+    fn done(core: Core, host: Host) -> Self
+        ensures { result ≡ record { core = core; host = host; answer = Answer.Done } }
+    {
+        Followed {
+            core,
+            host,
+            answer: Answer::Done,
+        }
+    }
+
+    // Turned away: nothing changes.
+    fn turn_away(core: Core, host: Host, number: u8) -> Self
+        ensures { result ≡ record { core = core; host = host; answer = Answer.Refused number } }
+    {
+        Followed {
+            core,
+            host,
+            answer: Answer::Refused(number),
+        }
+    }
+}
+
+// The part of a burst record that is the repeater's. No From: neither type is this crate's, and of the crates that have them neither stands on the other.
+#[tactic(auto, unfolding(crate::specs::Bursts::activity_of))]
 fn activity(b: Burst) -> Activity
     ensures { result ≡ activity_of b }
 {
@@ -78,174 +102,94 @@ fn activity(b: Burst) -> Activity
     }
 }
 
-// A burst on the core, and its credits in the counters and addresses.
-pub fn burst(
-    core: Core,
-    counters: &mut [u32; Flat::COUNTERS],
-    addresses: &mut [u8; Flat::ADDRESSES],
-    b: Burst,
-    source: [u8; 6],
-) -> Spoken
-    ensures { Bursts core b source counters.old addresses.old result counters.new addresses.new }
+// A burst on the core, and its credits in the counters and addresses. Core, counters and host's record come one by one, as in access.
+#[tactic(auto, unfolding(crate::specs::Bursts::burst_on, crate::specs::Bursts::noted_on, crate::specs::Bursts::burst_core, chip::specs::Chip::moved))]
+pub fn burst(core: Core, flat: &mut Flat, b: Burst, source: [u8; 6]) -> Spoken
+    ensures { Bursts core b source flat.old result flat.new }
 {
-    let kept = core.kept;
-    let choices = kept.choices;
-    let repeater = core.repeater;
-    let bursted = repeater.burst(activity(b));
-    let next = bursted.repeater;
-    let hearing = bursted.hearing;
+    let bursted = core.repeater.burst(activity(b));
+    let before = core.repeater.partitioned();
+    let after = bursted.repeater.partitioned();
     let effect = bursted.effect;
     let marks = bursted.marks;
-    let word = effect.word;
-    let before = repeater.partitioned();
-    let after = next.partitioned();
     let met = Met {
-        heard: hearing.h,
+        heard: bursted.hearing.h,
         single: effect.single,
         collision: effect.collision,
         cut: ports::less(after, before),
-        limit: choices.short_limit,
+        limit: core.kept.choices.short_limit,
     };
-    let due = attributes::credit(counters, addresses, met, b, source);
-    let moved = core.move_by(next, before ^ after, marks.loopback, marks.sqe, due.changed);
-    let totalled = moved.total(effect.transmit_collision, due.octets);
+    let due = flat.credit(met, b, source);
+    let moved = core.move_by(
+        bursted.repeater,
+        before ^ after,
+        marks.loopback,
+        marks.sqe,
+        due.changed,
+    );
     Spoken {
-        core: totalled,
-        answer: Answer::Sent(word, effect.out),
+        core: moved.total(effect.transmit_collision, due.octets),
+        answer: Answer::Sent(effect.word, effect.out),
     }
 }
 
-// After a burst,
-fn follow_burst(
-    core: Core,
-    counters: &mut [u32; Flat::COUNTERS],
-    addresses: &mut [u8; Flat::ADDRESSES],
-    h: Host,
-    b: Burst,
-    source: [u8; 6],
-) -> Followed
-    ensures { Follows core h (Asked.Burst b) source counters.old addresses.old result counters.new addresses.new }
+// The address that an access wrote whole, if it did.
+#[tactic(auto, using(crate::proofs::FlatLaws::addressed_any), unfolding(crate::specs::Step::addressed_at))]
+pub fn write_address(flat: &mut Flat, port: Option<usize>, bytes: [u8; 6])
+    ensures { Addressed port bytes flat.old flat.new }
 {
-    let spoken = burst(core, counters, addresses, b, source);
-    let after = spoken.core;
-    let answer = spoken.answer;
-    Followed {
-        core: after,
-        host: h,
-        answer: answer,
+    if let Some(port) = port {
+        flat.readdress(port, bytes);
     }
 }
 
-// an access,
-fn follow_access(
-    core: Core,
-    counters: &mut [u32; Flat::COUNTERS],
-    addresses: &mut [u8; Flat::ADDRESSES],
-    h: Host,
-    a: Access,
-    source: [u8; 6],
-) -> Followed
-    ensures { Follows core h (Asked.Access a) source counters.old addresses.old result counters.new addresses.new }
-{
-    let acted = access::serve(core, counters, addresses, h, a);
-    let after = acted.core;
-    let next = acted.host;
-    let bytes = next.bytes;
-    let answer = acted.answer;
-    attributes::readdress(addresses, acted.port, bytes);
-    Followed {
-        core: after,
-        host: next,
-        answer: answer,
-    }
-}
-
-// what is turned away: nothing changes,
-fn turn_away(core: Core, h: Host, number: u8) -> Followed
-    ensures { result ≡ record { core = core; host = h; answer = Answer.Refused number } }
-{
-    Followed {
-        core: core,
-        host: h,
-        answer: Answer::Refused(number),
-    }
-}
-
-// or whatever a record asks for: the counters and addresses are lent.
-pub fn follow(
-    core: Core,
-    counters: &mut [u32; Flat::COUNTERS],
-    addresses: &mut [u8; Flat::ADDRESSES],
-    h: Host,
-    asked: Asked,
-    source: [u8; 6],
-) -> Followed
-    ensures { Follows core h asked source counters.old addresses.old result counters.new addresses.new }
+// After whatever a record asks for. The counters and addresses are lent.
+#[tactic(auto, unfolding(crate::specs::Step::taken))]
+pub fn follow(core: Core, flat: &mut Flat, h: Host, asked: Asked, source: [u8; 6]) -> Followed
+    ensures { Follows core h asked source flat.old result flat.new }
 {
     match asked {
-        Asked::Burst(b) => follow_burst(core, counters, addresses, h, b, source),
-        Asked::Quiet(quiet) => Followed {
-            core: core.pass(quiet),
-            host: h,
-            answer: Answer::Done,
-        },
-        Asked::Access(a) => follow_access(core, counters, addresses, h, a, source),
-        Asked::Reset => Followed {
-            core: core.reset(),
-            host: Host::power_up(),
-            answer: Answer::Done,
-        },
-        Asked::Refused(number) => turn_away(core, h, number),
+        Asked::Burst(b) => {
+            let spoken = burst(core, flat, b, source);
+            Followed {
+                core: spoken.core,
+                host: h,
+                answer: spoken.answer,
+            }
+        }
+        Asked::Quiet(quiet) => Followed::done(core.pass(quiet), h),
+        Asked::Access(a) => {
+            let acted = access::serve(core, flat, h, a);
+            write_address(flat, acted.port, acted.host.bytes);
+            Followed {
+                core: acted.core,
+                host: acted.host,
+                answer: acted.answer,
+            }
+        }
+        Asked::Reset => Followed::done(core.reset(), Host::power_up()),
+        Asked::Refused(number) => Followed::turn_away(core, h, number),
     }
 }
 
-// The same, with the arrays by value.
-fn take_apart(
-    core: Core,
-    counters0: [u32; Flat::COUNTERS],
-    addresses0: [u8; Flat::ADDRESSES],
-    h: Host,
-    asked: Asked,
-    source: [u8; 6],
-) -> Left
-    ensures { stepped_by result ≡ taken asked source (holding core counters0 addresses0) h }
-{
-    let mut counters = counters0;
-    let mut addresses = addresses0;
-    let followed = follow(core, &mut counters, &mut addresses, h, asked, source);
-    let after = followed.core;
-    let next = followed.host;
-    let answer = followed.answer;
-    Left {
-        chip: FlatChip {
-            core: after,
-            flat: Flat {
-                counters: counters,
-                addresses: addresses,
-            },
-        },
-        host: next,
-        answer: answer,
-    }
-}
-
-// After what a record asks for.
-pub fn take(chip: FlatChip, h: Host, asked: Asked, source: [u8; 6]) -> Left
+// After what a record asks for, by value.
+pub fn take(mut chip: FlatChip, h: Host, asked: Asked, source: [u8; 6]) -> Left
     ensures { stepped_by result ≡ taken asked source (chip_of chip) h }
 {
-    let core = chip.core;
-    let flat = chip.flat;
-    let counters = flat.counters;
-    let addresses = flat.addresses;
-    take_apart(core, counters, addresses, h, asked, source)
+    let followed = follow(chip.core, &mut chip.flat, h, asked, source);
+    chip.core = followed.core;
+    Left {
+        chip,
+        host: followed.host,
+        answer: followed.answer,
+    }
 }
 
 // After any bytes.
+#[tactic(auto, unfolding(crate::specs::Step::step_of))]
 pub fn step(chip: FlatChip, h: Host, bytes: &[u8]) -> Left
     ensures { stepped_by result ≡ step_of (chip_of chip) h bytes.now }
 {
     let record = record::read_record(bytes);
-    let asked = record.asked;
-    let source = record.source;
-    take(chip, h, asked, source)
+    take(chip, h, record.asked, record.source)
 }

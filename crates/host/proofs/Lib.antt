@@ -1,4 +1,4 @@
--- First the tables, computed, and a record in any state. Laws that the functions' proofs cite: Pages, Places. Theorems: Listed (the map), Spelling (the weights
+-- First the tables, computed, and a record in any state. Laws by cases: Pages, Places. Theorems: Listed (the map), Spelling (the weights
 -- of four bytes), Afresh (selection and turns), Copied (reads in a row), Collected (writes in a row), Sound.
 pub mod Computing
 pub mod Sheet

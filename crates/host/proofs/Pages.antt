@@ -4,8 +4,8 @@ use mathlib.Core.Path.{◌≡◌, refl, sym, ◌∙◌, ap}
 use mathlib.Core.Bool.{Bool, true, false, ◌&&◌, or-false}
 use mathlib.Core.List.{[], ◌∷◌}
 use native.Mathlib.Omega.{arith}
-use borrow.Author.Tests.{le-leb, leb-true, leb-false, lt-ltb, ltb-true, ltb-false, ne_eqb, eqb-true, eqb-false}
-use lib.Dec.{leb, ltb, eqb, leb-zero}
+use borrow.Author.Tests.{le-leb, leb-true, ne_eqb, eqb-true, eqb-false}
+use lib.Dec.{leb, eqb, leb-zero}
 use Rattle.ports.specs.Sets.{aui}
 use Rattle.host.specs.declared.Register.TheVariants.{Unlisted, Change, Enable, Counter, Address}
 use Rattle.host.specs.Map.{◌to◌, only, within, Line, table, line_at, port_pages, port_of}
@@ -50,27 +50,6 @@ only_eqb k n = go (eqb n k) refl
 pub up_to : (b n : ℕ) → within (0 to b ∷ []) n ≡ leb n b
 up_to b n = rw (leb-zero n) (or-false (leb n b))
 
--- the registers of bits: all below 8 but 5
-pub bits_below : (n : ℕ) → (n ≡ 5 → ⊥) → ltb n 8 ≡ within bit_registers n
-bits_below n h = go (leb n 4) (ltb n 8) refl refl
-  where
-    go : (b c : Bool) → leb n 4 ≡ b → ltb n 8 ≡ c → ltb n 8 ≡ within bit_registers n
-    go true c p q =
-        let l = leb-true n 4 p in
-        rw (in_range 0 4 n (omega arith) (omega arith)) (lt-ltb n 8 (omega arith))
-    go false true p q =
-        let l = leb-false n 4 p in
-        let m = ltb-true n 8 q in
-        rw (q, off_range 0 4 n (λ x y. omega arith), in_range 6 7 n (omega arith) (omega arith))
-    go false false p q =
-        let m = ltb-false n 8 q in
-        rw (q, off_range 0 4 n (λ x y. omega arith), off_range 6 7 n (λ x y. omega arith))
-
--- page 0, where R is none of the five
-pub chip_unlisted : (r : ℕ) → (r ≡ 12 → ⊥) → (r ≡ 13 → ⊥) → (r ≡ 28 → ⊥) → (r ≡ 30 → ⊥) → (r ≡ 31 → ⊥) → row_at 0 r ≡ no_row
-unfolding row_at table
-chip_unlisted r a b c d e = simp (off_only 12 r a, off_only 13 r b, off_only 28 r c, off_only 30 r d, off_only 31 r e)
-
 -- pages 1 and 2
 module _ (r : ℕ) where
   pub change_listed : within bit_registers r ≡ true → row_at 1 r ≡ row_of (Change r)
@@ -99,10 +78,6 @@ module _ (i r : ℕ) where
   unfolding port_row table row_of
   port_address e = rw e
 
-  pub port_unlisted : (r ≤ last_counter → ⊥) → (r ≡ address_register → ⊥) → port_row i r ≡ no_row
-  unfolding port_row table
-  port_unlisted a b = simp (off_range 0 last_counter r (λ l u. a u), off_only address_register r b)
-
 -- every port's page
 same_line : (p r : ℕ) → within port_pages p ≡ true → (p ≡ 0 → ⊥) → (p ≡ 1 → ⊥) → (p ≡ 2 → ⊥) → line_at p r ≡ line_at 16 r
 unfolding table
@@ -119,15 +94,3 @@ tp_page p r l u =
 
 pub aui_page_lem : (r : ℕ) → row_at 31 r ≡ port_row aui r
 aui_page_lem r = on_port 31 r refl (λ e. omega arith) (λ e. omega arith) (λ e. omega arith)
-
--- any other page
-pub no_page : (p r : ℕ) → (p ≡ 0 → ⊥) → (p ≡ 1 → ⊥) → (p ≡ 2 → ⊥) → (16 ≤ p → p < 24 → ⊥) → (p ≡ 31 → ⊥) → row_at p r ≡ no_row
-unfolding row_at table
-no_page p r a b c d e =
-    simp (
-      off_only 0 p a,
-      off_only 1 p b,
-      off_only 2 p c,
-      off_range 16 23 p (λ l u. d l (omega arith)),
-      off_range 31 31 p (λ l u. e (omega arith)),
-    )

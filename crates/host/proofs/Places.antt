@@ -1,19 +1,16 @@
 -- Selection and places by their cases, as the code asks about them. Assumes nothing.
 use Prim.Native.Nat.{ℕ, suc, ◌+◌, ◌-◌, ◌/◌, ◌%◌, ◌≤◌, ◌<◌}
-use mathlib.Core.Path.{◌≡◌, refl, sym}
+use mathlib.Core.Path.{◌≡◌, refl}
 use mathlib.Core.Bool.{Bool, true, false, cond, beq}
 use mathlib.Core.Logic.{◌⊎◌, inl, inr}
 use native.Mathlib.Omega.{arith}
 use native.Mathlib.Numerals.{add-one}
 use lib.Dec.{ltb}
-use borrow.Author.Tests.{le-leb, lt-leb, lt-ltb, ne_eqb, leb-false}
+use borrow.Author.Tests.{le-leb, lt-leb, lt-ltb, leb-false}
 use Rattle.host.specs.declared.Host.{Host}
 use mathlib.Core.List.{List}
-use lib.ListN.{length, get_or, set, get_or-eq_default}
-use Rattle.host.specs.declared.Reading.{Reading}
-use Rattle.host.specs.declared.Writing.{Writing}
 use Rattle.host.proofs.AnyRecord.{either_first}
-use Rattle.host.specs.Sequence.{selected, restarted, with_selection, with_sequence, place_for, is_last, next_place, copied, read_byte, wrote_byte}
+use Rattle.host.specs.Sequence.{selected, restarted, with_selection, with_sequence, place_for, is_last, next_place}
 
 module _ (b : ℕ) (h : Host) where
   pub selects_page : b < 32 → restarted (with_selection h b h.register) ≡ selected b h
@@ -29,14 +26,6 @@ module _ (b : ℕ) (h : Host) where
       let q : b / 32 ≡ 7 = omega arith in
       let m : b % 32 ≡ b - 224 = omega arith in
       rw (q, m)
-
-  pub selects_nothing : 32 ≤ b → b < 224 → h ≡ selected b h
-  unfolding selected
-  selects_nothing l u = simp (ne_eqb (b / 32) 0 (λ e. omega arith), ne_eqb (b / 32) 7 (λ e. omega arith))
-
--- past the last element
-pub past : (bs : List ℕ) (i : ℕ) → length bs ≤ i → 0 ≡ get_or bs i 0
-past bs i h = sym (get_or-eq_default bs 0 {n = i} h)
 
 pub last : (n i : ℕ) → n ≤ i + 1 → true ≡ is_last n i
 unfolding is_last
@@ -84,17 +73,3 @@ module _ (n : ℕ) (h : Host) (bs : List ℕ) where
       go : (x y : Bool) → ◌≡◌ {A = ℕ} (cond x (cond y 0 0) 0) 0
       go true y = either_first y
       go false y = refl
-
--- an access put together from its parts
-module _ (n : ℕ) (h : Host) where
-  pub read_made : (v bs : List ℕ) (i b k : ℕ) → i ≡ place_for false n h → bs ≡ copied i v h.bytes → b ≡ get_or bs i 0
-      → k ≡ next_place n i
-      → ◌≡◌ {A = Reading} (record { host = with_sequence h bs k false; byte = b }) (read_byte n v h)
-  unfolding read_byte
-  read_made v bs i b k p q r s = rw (s, r, q, p)
-
-  pub write_made : (bs : List ℕ) (i b k : ℕ) (l : Bool) → i ≡ place_for true n h → bs ≡ set h.bytes i b
-      → k ≡ next_place n i → l ≡ is_last n i
-      → ◌≡◌ {A = Writing} (record { host = with_sequence h bs k true; complete = l }) (wrote_byte n b h)
-  unfolding wrote_byte
-  write_made bs i b k l p q r s = rw (s, r, q, p)

@@ -2,15 +2,15 @@
 // from a page P and a register number R to a register's row, and the byte sequences. What the registers hold is the caller's.
 #![tactic(auto)]
 
-ghost use Rattle.std.specs.Prelude.{◌≡◌, ◌%◌, get_or, set};
+ghost use Rattle.std.specs.Prelude.{◌≡◌, true, get_or, set};
 ghost use Rattle.host.specs.Bytes.{spread_of, single_of};
-ghost use Rattle.host.specs.Map.{row_at, row, no_row, read, write, both, within, bit_registers};
-ghost use Rattle.host.specs.Parts.{port_row};
+ghost use Rattle.host.specs.Map.{row_at, row, no_row, within, port_pages, port_of};
+ghost use Rattle.host.specs.Parts.{listed_ways};
 ghost use Rattle.host.specs.Sequence.{power_up, restarted, selected, place_for, is_last, next_place, copied, read_byte, wrote_byte};
 
 // What only power-up, resets and accesses alter: the selection, the six copied bytes, the place of the next byte, and whether
 // the last accepted D access was a write.
-#[derive(Clone, Copy)]
+#[derive(Clone, Copy, Default)]
 pub struct Host {
     pub page: u8,
     pub register: u8,
@@ -36,7 +36,8 @@ pub enum Register {
 }
 
 // What an access to a register does to the chip, beside giving its value: nothing; the read clears the change bits of an R; the
-// write is a command (through G, or else through S); it sets the enables of an R; it sets the address of a port.
+// write is a command (through G, or else through S); it sets the enables of an R; it sets the address of a port. That a command
+// comes through G is a flag, as `table`, `spots_hold` and what is proved of commands have it.
 #[derive(Clone, Copy)]
 pub enum Role {
     Plain,
@@ -47,7 +48,8 @@ pub enum Role {
 }
 
 // A row of the map: a register, how many bytes it has, the ways in which it may be accessed, its role. What is not listed has
-// no bytes.
+// no bytes. It is a row too, and no `None`: `row_at` ensures a row for each P and R, and `spots_hold` and `every_row` say which. The
+// two flags are those of the map's rows in specs/Map, which `read_d` and `write_d` of access are promised by.
 #[derive(Clone, Copy)]
 pub struct Row {
     pub register: Register,
@@ -64,11 +66,19 @@ pub struct Reading {
     pub byte: u8,
 }
 
-// The record after a byte was written, and whether that was the register's last.
+// The record after a byte was written, and whether that was the register's last: a flag beside a record that counts either way.
 #[derive(Clone, Copy)]
 pub struct Writing {
     pub host: Host,
     pub complete: bool,
+}
+
+// The ways in which a listed register may be accessed.
+#[derive(Clone, Copy, PartialEq, Eq)]
+enum Ways {
+    Read,
+    Write,
+    Both,
 }
 
 impl Row {
@@ -81,39 +91,15 @@ impl Row {
     // AUI's page.
     const AUI_PAGE: u8 = 31;
 
-    // A register that may be read, written, both: its bytes and its role.
-    fn read(register: Register, size: u8, role: Role) -> Row
-        ensures { result ≡ row register size read role }
+    // A listed register: its bytes, its ways and its role.
+    fn listed(register: Register, size: u8, ways: Ways, role: Role) -> Row
+        ensures { result ≡ row register size (listed_ways ways) role }
     {
         Row {
             register,
             size,
-            readable: true,
-            writable: false,
-            role,
-        }
-    }
-
-    fn write(register: Register, size: u8, role: Role) -> Row
-        ensures { result ≡ row register size write role }
-    {
-        Row {
-            register,
-            size,
-            readable: false,
-            writable: true,
-            role,
-        }
-    }
-
-    fn both(register: Register, size: u8, role: Role) -> Row
-        ensures { result ≡ row register size both role }
-    {
-        Row {
-            register,
-            size,
-            readable: true,
-            writable: true,
+            readable: ways != Ways::Write,
+            writable: ways != Ways::Read,
             role,
         }
     }
@@ -146,227 +132,188 @@ impl Host {
     pub fn power_up() -> Host
         ensures { result ≡ power_up }
     {
-        Host {
-            page: 0,
-            register: 0,
-            bytes: [0; 6],
-            place: Host::FIRST,
-            writing: false,
-        }
+        Host::default()
+    }
+}
+
+// The port of a port's page.
+fn port_of(page: u8) -> u8
+    requires { within port_pages page ≡ true }
+    ensures { result ≡ port_of page }
+{
+    if page == Row::AUI_PAGE {
+        ports::AUI as u8
+    } else {
+        page - Row::TP0_PAGE
     }
 }
 
 // The row of the register that P and R select. A P or an R above 31 selects one that is not listed.
+#[tactic(auto, unfolding(crate::specs::Map::row_at, crate::specs::Map::table))]
 pub fn row_at(page: u8, register: u8) -> Row
     ensures { result ≡ row_at page register }
 {
-    match page {
-        0 => chip_row(register),
-        1 => change_row(register),
-        2 => enable_row(register),
-        Row::TP0_PAGE..=Row::TP7_PAGE => port_row(page - Row::TP0_PAGE, register),
-        Row::AUI_PAGE => port_row(ports::AUI as u8, register),
-        _ => Row::unlisted(),
-    }
-}
-
-// Page 0.
-fn chip_row(register: u8) -> Row
-    ensures { result ≡ row_at 0 register }
-{
-    match register {
-        12 => Row::read(Register::TransmitCollisions, 4, Role::Plain),
-        13 => Row::read(Register::TotalOctets, 4, Role::Plain),
-        28 => Row::read(Register::Version, 1, Role::Plain),
-        30 => Row::write(Register::SetPort, 1, Role::Commands(false)),
-        31 => Row::both(Register::GetPort, 1, Role::Commands(true)),
-        _ => Row::unlisted(),
-    }
-}
-
-// Whether R names change bits, and the enables of the same bits.
-fn has_bits(register: u8) -> bool
-    ensures { result ≡ within bit_registers register }
-{
-    if register == 5 {
-        return false;
-    }
-    register < 8
-}
-
-// Page 1.
-fn change_row(register: u8) -> Row
-    ensures { result ≡ row_at 1 register }
-{
-    if has_bits(register) {
-        return Row::read(Register::Change(register), 1, Role::Cleared(register));
-    }
-    Row::unlisted()
-}
-
-// Page 2.
-fn enable_row(register: u8) -> Row
-    ensures { result ≡ row_at 2 register }
-{
-    if has_bits(register) {
-        return Row::both(Register::Enable(register), 1, Role::Enables(register));
-    }
-    Row::unlisted()
-}
-
-// A port's page.
-fn port_row(port: u8, register: u8) -> Row
-    ensures { result ≡ port_row port register }
-{
-    match register {
-        0..=12 => Row::read(Register::Counter(port, register), 4, Role::Plain),
-        14 => Row::both(Register::Address(port), 6, Role::Address(port)),
+    match (page, register) {
+        (0, 12) => Row::listed(Register::TransmitCollisions, 4, Ways::Read, Role::Plain),
+        (0, 13) => Row::listed(Register::TotalOctets, 4, Ways::Read, Role::Plain),
+        (0, 28) => Row::listed(Register::Version, 1, Ways::Read, Role::Plain),
+        (0, 30) => Row::listed(Register::SetPort, 1, Ways::Write, Role::Commands(false)),
+        (0, 31) => Row::listed(Register::GetPort, 1, Ways::Both, Role::Commands(true)),
+        (1, 0..=4 | 6..=7) => Row::listed(
+            Register::Change(register),
+            1,
+            Ways::Read,
+            Role::Cleared(register),
+        ),
+        (2, 0..=4 | 6..=7) => Row::listed(
+            Register::Enable(register),
+            1,
+            Ways::Both,
+            Role::Enables(register),
+        ),
+        (Row::TP0_PAGE..=Row::TP7_PAGE | Row::AUI_PAGE, 0..=12) => {
+            Row::listed(
+                Register::Counter(port_of(page), register),
+                4,
+                Ways::Read,
+                Role::Plain,
+            )
+        }
+        (Row::TP0_PAGE..=Row::TP7_PAGE | Row::AUI_PAGE, 14) => {
+            let port = port_of(page);
+            Row::listed(Register::Address(port), 6, Ways::Both, Role::Address(port))
+        }
         _ => Row::unlisted(),
     }
 }
 
 // The sequence at its first byte.
-fn restarted(mut host: Host) -> Host
+fn restarted(host: Host) -> Host
     ensures { result ≡ restarted host }
 {
-    host.place = Host::FIRST;
-    host
+    Host {
+        place: Host::FIRST,
+        ..host
+    }
 }
 
 // A C write: 000xxxxx selects P, 111xxxxx selects R, and either starts the byte sequence anew. Any other byte is turned away
 // by the caller with 7, and leaves the record as it is here too.
-pub fn select(mut host: Host, byte: u8) -> Host
+#[tactic(auto, unfolding(crate::specs::Sequence::selected))]
+pub fn select(host: Host, byte: u8) -> Host
     ensures { result ≡ selected byte host }
 {
-    if byte < Host::SELECTED_BELOW {
-        host.page = byte;
-        return restarted(host);
+    match byte {
+        0..Host::SELECTED_BELOW => restarted(Host { page: byte, ..host }),
+        Host::R_FROM.. => restarted(Host {
+            register: byte - Host::R_FROM,
+            ..host
+        }),
+        _ => host,
     }
-    if Host::R_FROM <= byte {
-        host.register = byte - Host::R_FROM;
-        return restarted(host);
-    }
-    host
 }
 
 // The place of the byte that a D access takes: where the sequence stands, but the first byte after a turn and where that
 // place is past the register's last.
+#[tactic(auto, unfolding(crate::specs::Sequence::place_for))]
 fn place_for(host: Host, writing: bool, size: u8) -> u8
     ensures { result ≡ place_for writing size host }
 {
-    if host.writing == writing {
-        if host.place < size {
-            return host.place;
-        }
-        return Host::FIRST;
+    if host.writing == writing && host.place < size {
+        host.place
+    } else {
+        Host::FIRST
     }
-    Host::FIRST
 }
 
 // Whether the byte at a place is the register's last.
+#[tactic(auto, unfolding(crate::specs::Sequence::is_last))]
 fn is_last(place: u8, size: u8) -> bool
     ensures { result ≡ is_last size place }
 {
-    if place < size {
-        return size <= place + 1;
-    }
-    true
+    size <= place.saturating_add(1)
 }
 
 // The place after a place: the first again after the last.
+#[tactic(auto, unfolding(crate::specs::Sequence::next_place, crate::specs::Sequence::is_last))]
 fn next_place(place: u8, size: u8) -> u8
     ensures { result ≡ next_place size place }
 {
     if is_last(place, size) {
-        return Host::FIRST;
+        Host::FIRST
+    } else {
+        place + 1
     }
-    place + 1
 }
 
 // The bytes that a read goes by: the present value at the first place, the copy made there at the others.
+#[tactic(auto, unfolding(crate::specs::Sequence::copied))]
 fn copy_at(place: u8, value: [u8; 6], held: [u8; 6]) -> [u8; 6]
     ensures { result ≡ copied place value held }
 {
-    if place == Host::FIRST {
-        return value;
-    }
-    held
+    if place == Host::FIRST { value } else { held }
 }
 
-// The byte at a place; 0 past the sixth.
+// The byte at a place; 0 past the sixth. The crate changes has these two functions for its eight bytes: each is a line of std, and no plainer as a function of both.
 fn byte_at(bytes: [u8; 6], place: u8) -> u8
     ensures { result ≡ get_or bytes place 0 }
 {
-    let i = place as usize;
-    if i < 6 {
-        return bytes[i];
-    }
-    0
+    bytes.get(usize::from(place)).copied().unwrap_or(0)
 }
 
-// A byte stored at a place; past the sixth nothing is stored.
-fn with_byte(bytes: [u8; 6], place: u8, byte: u8) -> [u8; 6]
+// A byte stored at a place; past the sixth nothing is stored. Not by `get_mut`: where its loan ends, a proof knows an array's
+// length and none of its elements.
+fn with_byte(mut bytes: [u8; 6], place: u8, byte: u8) -> [u8; 6]
     ensures { result ≡ set bytes place byte }
 {
-    let mut next = bytes;
-    let i = place as usize;
-    if i < 6 {
-        next[i] = byte;
-        return next;
+    let i = usize::from(place);
+    if i < bytes.len() {
+        bytes[i] = byte;
     }
     bytes
 }
 
 // A D read of a register of `size` bytes that now holds `value`, the byte that is read first in front.
-pub fn read_byte(mut host: Host, size: u8, value: [u8; 6]) -> Reading
+#[tactic(auto, unfolding(crate::specs::Sequence::read_byte))]
+pub fn read_byte(host: Host, size: u8, value: [u8; 6]) -> Reading
     ensures { result ≡ read_byte size value host }
 {
     let place = place_for(host, false, size);
-    let held = host.bytes;
-    let bytes = copy_at(place, value, held);
-    let byte = byte_at(bytes, place);
-    host.bytes = bytes;
-    host.place = next_place(place, size);
-    host.writing = false;
-    Reading { host, byte }
+    let bytes = copy_at(place, value, host.bytes);
+    Reading {
+        host: Host {
+            bytes,
+            place: next_place(place, size),
+            writing: false,
+            ..host
+        },
+        byte: byte_at(bytes, place),
+    }
 }
 
 // A D write to a register of `size` bytes. When it is complete, the bytes written are the first of the record's.
-pub fn write_byte(mut host: Host, size: u8, byte: u8) -> Writing
+#[tactic(auto, unfolding(crate::specs::Sequence::wrote_byte))]
+pub fn write_byte(host: Host, size: u8, byte: u8) -> Writing
     ensures { result ≡ wrote_byte size byte host }
 {
     let place = place_for(host, true, size);
-    let held = host.bytes;
-    let bytes = with_byte(held, place, byte);
-    let complete = is_last(place, size);
-    host.bytes = bytes;
-    host.place = next_place(place, size);
-    host.writing = true;
-    Writing { host, complete }
+    Writing {
+        host: Host {
+            bytes: with_byte(host.bytes, place, byte),
+            place: next_place(place, size),
+            writing: true,
+            ..host
+        },
+        complete: is_last(place, size),
+    }
 }
 
 // A number of four bytes, least significant first, and two zeros.
 pub fn spread(number: u32) -> [u8; 6]
     ensures { result ≡ spread_of number }
 {
-    let second = number / 256;
-    let third = second / 256;
-    let fourth = third / 256;
-    [
-        low_byte(number),
-        low_byte(second),
-        low_byte(third),
-        low_byte(fourth),
-        0,
-        0,
-    ]
-}
-
-// The lowest byte of a number.
-fn low_byte(number: u32) -> u8
-    ensures { result ≡ number % 256 }
-{
-    (number % 256) as u8
+    let [first, second, third, fourth] = number.to_le_bytes();
+    [first, second, third, fourth, 0, 0]
 }
 
 // One byte, and five zeros.

@@ -5,16 +5,14 @@
 ghost use Rattle.std.specs.Prelude.{◌≡◌};
 ghost use Rattle.chip.specs.Flat.{chip_of};
 ghost use Rattle.himib.specs.Step.{step_of};
-ghost use Rattle.himib.specs.Flat.{stepped_by};
 ghost use Rattle.lent.specs.Lent.{together, requested, bare, request_for, c_write, c_read, d_write, d_read};
 
 pub mod lists;
 
 use answer::Answer;
 use chip::FlatChip;
-use himib::Left;
 use host::Host;
-use record::{Access, Asked, Record};
+use record::{Access, Asked, Record, Refusal};
 
 // What comes back beside the lent record.
 #[derive(Clone, Copy)]
@@ -23,21 +21,11 @@ pub struct Rest {
     pub answer: Answer,
 }
 
-// A request on a chip and a host's record, by value.
-fn take_by_value(host: Host, chip: FlatChip, request: Record) -> Left
-    ensures { stepped_by result ≡ requested request (chip_of chip) host }
-{
-    let asked = request.asked;
-    let source = request.source;
-    himib::take(chip, host, asked, source)
-}
-
-// The same on a lent record.
+// A request on a lent record.
 fn take(host: &mut Host, chip: FlatChip, request: Record) -> Rest
     ensures { together result host.new ≡ requested request (chip_of chip) host.old }
 {
-    let h = *host;
-    let s = take_by_value(h, chip, request);
+    let s = himib::take(chip, *host, request.asked, request.source);
     *host = s.host;
     Rest {
         chip: s.chip,
@@ -45,46 +33,40 @@ fn take(host: &mut Host, chip: FlatChip, request: Record) -> Rest
     }
 }
 
-// A C write.
+// A C write. Each access is a function by its name, and none with an `Access`: OneLent and LentIsStill (ties/specs/Outcomes) say of each what it promises.
 pub fn write_c(host: &mut Host, chip: FlatChip, byte: u8) -> Rest
     ensures { together result host.new ≡ requested (c_write byte) (chip_of chip) host.old }
 {
-    let request = c_write(byte);
-    take(host, chip, request)
+    take(host, chip, c_write(byte))
 }
 
 // A D write.
 pub fn write_d(host: &mut Host, chip: FlatChip, byte: u8) -> Rest
     ensures { together result host.new ≡ requested (d_write byte) (chip_of chip) host.old }
 {
-    let request = d_write(byte);
-    take(host, chip, request)
+    take(host, chip, d_write(byte))
 }
 
 // A C read.
 pub fn read_c(host: &mut Host, chip: FlatChip) -> Rest
     ensures { together result host.new ≡ requested c_read (chip_of chip) host.old }
 {
-    let access = Access::ReadC;
-    let request = request_for(access);
-    take(host, chip, request)
+    take(host, chip, request_for(Access::ReadC))
 }
 
 // A D read.
 pub fn read_d(host: &mut Host, chip: FlatChip) -> Rest
     ensures { together result host.new ≡ requested d_read (chip_of chip) host.old }
 {
-    let access = Access::ReadD;
-    let request = request_for(access);
-    take(host, chip, request)
+    take(host, chip, request_for(Access::ReadD))
 }
 
 // A record of any bytes, of any length.
+#[tactic(auto, unfolding(himib::specs::Step::step_of))]
 pub fn step(host: &mut Host, chip: FlatChip, bytes: &[u8]) -> Rest
     ensures { together result host.new ≡ step_of (chip_of chip) host.old bytes.now }
 {
-    let request = record::read_record(bytes);
-    take(host, chip, request)
+    take(host, chip, record::read_record(bytes))
 }
 
 // An access as a request.
@@ -99,7 +81,7 @@ fn bare(asked: Asked) -> Record
     ensures { result ≡ bare asked }
 {
     Record {
-        asked: asked,
+        asked,
         source: [0; 6],
     }
 }
@@ -109,7 +91,7 @@ fn c_write(byte: u8) -> Record
     ensures { result ≡ c_write byte }
 {
     if record::selects_neither(byte) {
-        return bare(Asked::Refused(7));
+        return bare(Asked::Refused(u8::from(Refusal::SelectsNeither)));
     }
     request_for(Access::WriteC(byte))
 }

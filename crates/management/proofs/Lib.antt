@@ -1,3 +1,2 @@
--- The tables, computed; then laws of the definitions.
+-- The tables, computed.
 pub mod Listed
-pub mod CommandLaws

@@ -2,7 +2,7 @@
 #![tactic(auto)]
 
 ghost use Rattle.std.specs.Prelude.{◌≡◌};
-ghost use Rattle.management.specs.Commands.{command_of, row_of};
+ghost use Rattle.management.specs.Commands.{command_of};
 ghost use Rattle.management.specs.Status.{clear_status, marked, cleared_by};
 
 #[derive(Clone, Copy)]
@@ -30,6 +30,7 @@ pub enum Query {
     Version,
 }
 
+// A byte that is no command is `Unlisted`, and no `None`: `command_of`, `forty_five` and `rows` name it.
 #[derive(Clone, Copy)]
 pub enum Command {
     Set(Setting),
@@ -37,7 +38,8 @@ pub enum Command {
     Unlisted,
 }
 
-// The command that a byte is.
+// The command that a byte is. The last three bits of each range's bytes name a TP port.
+#[tactic(auto, unfolding(crate::specs::Commands::command_of))]
 pub fn decode(byte: u8) -> Command
     ensures { result ≡ command_of byte }
 {
@@ -55,15 +57,6 @@ pub fn decode(byte: u8) -> Command
         0b1101_0000 => Command::Get(Query::Link),
         0b1111_0000 => Command::Get(Query::Mjlp),
         0b1111_1111 => Command::Get(Query::Version),
-        _ => decode_row(byte),
-    }
-}
-
-// A byte whose last three bits name a TP port, or one that is not listed.
-fn decode_row(byte: u8) -> Command
-    ensures { result ≡ row_of byte }
-{
-    match byte {
         0b0010_0000..=0b0010_0111 => Command::Set(Setting::DisableTp(byte - 0b0010_0000)),
         0b0011_0000..=0b0011_0111 => Command::Set(Setting::EnableTp(byte - 0b0011_0000)),
         0b0100_0000..=0b0100_0111 => Command::Set(Setting::LinkTestOff(byte - 0b0100_0000)),
@@ -72,7 +65,7 @@ fn decode_row(byte: u8) -> Command
     }
 }
 
-#[derive(Clone, Copy)]
+#[derive(Clone, Copy, Default)]
 pub struct Status {
     pub rate: bool,
     pub sqe: bool,
@@ -86,60 +79,50 @@ impl Status {
     pub fn power_up() -> Status
         ensures { result ≡ clear_status }
     {
-        Status {
-            rate: false,
-            sqe: false,
-            loopback: false,
-            rates: 0,
-            mjlp: false,
-        }
+        Status::default()
     }
 
     // The status with the bits of another set as well.
+    #[tactic(auto, unfolding(crate::specs::Status::marked))]
     pub fn mark(self, marks: Status) -> Status
         ensures { result ≡ marked self marks }
     {
         Status {
-            rate: self.rate | marks.rate,
-            sqe: self.sqe | marks.sqe,
-            loopback: self.loopback | marks.loopback,
+            rate: self.rate || marks.rate,
+            sqe: self.sqe || marks.sqe,
+            loopback: self.loopback || marks.loopback,
             rates: self.rates | marks.rates,
-            mjlp: self.mjlp | marks.mjlp,
+            mjlp: self.mjlp || marks.mjlp,
         }
     }
 
     // The status after a Get.
-    pub fn clear(mut self, query: Query) -> Status
+    #[tactic(auto, unfolding(crate::specs::Status::cleared_by))]
+    pub fn clear(self, query: Query) -> Status
         ensures { result ≡ cleared_by query self }
     {
         match query {
-            Query::Aui => self,
-            Query::AuiClearB => {
-                self.rate = false;
-                self
-            }
-            Query::AuiClearSl => {
-                self.sqe = false;
-                self.loopback = false;
-                self
-            }
-            Query::AuiClearBsl => {
-                self.rate = false;
-                self.sqe = false;
-                self.loopback = false;
-                self
-            }
-            Query::Partition => self,
-            Query::Rates => {
-                self.rates = 0;
-                self
-            }
-            Query::Link => self,
-            Query::Mjlp => {
-                self.mjlp = false;
-                self
-            }
-            Query::Version => self,
+            Query::Aui | Query::Partition | Query::Link | Query::Version => self,
+            Query::AuiClearB => Status {
+                rate: false,
+                ..self
+            },
+            Query::AuiClearSl => Status {
+                sqe: false,
+                loopback: false,
+                ..self
+            },
+            Query::AuiClearBsl => Status {
+                rate: false,
+                sqe: false,
+                loopback: false,
+                ..self
+            },
+            Query::Rates => Status { rates: 0, ..self },
+            Query::Mjlp => Status {
+                mjlp: false,
+                ..self
+            },
         }
     }
 }

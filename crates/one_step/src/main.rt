@@ -9,7 +9,7 @@ use answer::Answer;
 use attributes::Flat;
 use chip::{Choices, FlatChip, FlatSupply, Kept};
 use host::Host;
-use record::Record;
+use record::Kind;
 
 // A chip and the host's record.
 #[derive(Clone, Copy)]
@@ -21,65 +21,54 @@ struct State {
 // Writes the line of a record; the buffer is lent for it. A line that cannot be written is lost.
 fn say(rt: &impl Print, number: u64, answer: Answer, line: &mut [u8]) {
     let n = answer::put_line(line, 0, number, answer);
-    if n <= line.len() {
-        let _ = rt.write_all(&line[0..n]);
+    if let Some(text) = line.get(..n) {
+        let _ = rt.write_all(text);
     }
 }
 
-// At power-up, with nothing counted and the usual choices.
+// At power-up, with nothing counted and the usual choices. Not by the crates start and opening: the stack of a step is read in a program that has little else.
 fn power_up() -> State {
-    let flat = Flat::zero();
-    let choices = Choices::usual();
     let powered = FlatChip::power_up(FlatSupply {
-        flat: flat,
+        flat: Flat::zero(),
         kept: Kept {
             transmit_collisions: 0,
             total_octets: 0,
-            choices: choices,
+            choices: Choices::usual(),
         },
     });
-    let chip = powered.chip;
     State {
-        chip: chip,
+        chip: powered.chip,
         host: Host::power_up(),
     }
 }
 
 // After four link pulses, the records 1 to 4.
 fn pulsed(rt: &impl Print, state: State, pulse: &[u8], line: &mut [u8]) -> State {
-    let mut s = state;
+    let mut after = state;
     for number in 1..5u64 {
-        let chip = s.chip;
-        let host = s.host;
-        let stepped = himib::step(chip, host, pulse);
-        let after = stepped.chip;
-        let left = stepped.host;
-        let answer = stepped.answer;
-        say(rt, number, answer, line);
-        s = State {
-            chip: after,
-            host: left,
+        let stepped = himib::step(after.chip, after.host, pulse);
+        say(rt, number, stepped.answer, line);
+        after = State {
+            chip: stepped.chip,
+            host: stepped.host,
         };
     }
-    s
+    after
 }
 
 // The burst, record 5.
 fn bursted(rt: &impl Print, state: State, burst: &[u8], line: &mut [u8]) {
-    let chip = state.chip;
-    let host = state.host;
-    let stepped = himib::step(chip, host, burst);
-    let answer = stepped.answer;
-    say(rt, 5, answer, line);
+    let stepped = himib::step(state.chip, state.host, burst);
+    say(rt, 5, stepped.answer, line);
 }
 
 fn main(rt: HostRuntime) {
     let mut line = [0u8; 32];
     let mut pulse = [0u8; 32];
-    pulse[0] = Record::PULSE;
+    pulse[0] = u8::from(Kind::Pulse);
     pulse[2] = 3;
     let mut burst = [0u8; 32];
-    burst[0] = Record::BURST;
+    burst[0] = u8::from(Kind::Burst);
     burst[2] = 1;
     burst[4] = 0xE8;
     burst[5] = 3;

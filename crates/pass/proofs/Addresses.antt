@@ -7,10 +7,9 @@ use mathlib.Core.Path.{◌≡◌, refl, sym, ap, ◌∙◌}
 use mathlib.Core.Bool.{Bool, true, false, cond, ◌&&◌, and-false}
 use mathlib.Core.List.{List, [], ◌∷◌}
 use mathlib.Core.Option.{Option, none, some}
-use native.Mathlib.Omega.{arith}
-use borrow.Author.Tests.{ne_eqb}
 use lib.Dec.{eqb}
-use Rattle.ports.specs.Sets.{nobody}
+use Rattle.std.specs.Prelude.{None}
+use Rattle.ports.specs.Sets.{is_at}
 use Rattle.record.specs.declared.Burst.{Burst}
 use Rattle.record.specs.declared.Access.{Access}
 use Rattle.record.specs.declared.Access.TheVariants as access
@@ -32,7 +31,7 @@ use Rattle.access.specs.declared.Acted.{Acted}
 use Rattle.access.specs.Access.{written_by, turned_away, selected_by, c_read_of, d_write_of, served}
 use Rattle.access.proofs.Cases.{stored, write_cases, read_nobody}
 use Rattle.himib.specs.Step.{addressed_at, taken, step_of}
-use Rattle.himib.proofs.StepLaws.{burst_consistent, address_addressed}
+use Rattle.himib.proofs.StepLaws.{burst_consistent, eqb_turned, address_addressed}
 use Rattle.himib.specs.Runs.{Point, happening, start, accepted, if_burst, address_at, history_of, run_of}
 use Rattle.pass.specs.Judged.{happens, history, run}
 use Rattle.pass.specs.Pass.{credit, written_byte, is_address, address_given, or_else, last_given, AddressesByPast}
@@ -54,23 +53,20 @@ module _ (c : Core) (nine : Nine) (h : Host) (w i : ℕ) (l : i < 9) (proper : P
   unfolding accepted addressed_at
   away k = refl
 
-  elsewhere : eqb nobody i ≡ false
-  elsewhere = ne_eqb nobody i (λ e. omega arith)
-
   -- a register of another role completes nothing
   named : (t : Bool) (role : Role) (s old : List ℕ)
-      → cond (eqb (cond t (written_by role w c).port nobody) i) s old ≡ or_else (cond (is_address i role && t) (some s) none) old
+      → cond (is_at (cond t (written_by role w c).port None) i) s old ≡ or_else (cond (is_address i role && t) (some s) none) old
   unfolding written_by
-  named true role.Plain s old = rw elsewhere
-  named true (role.Cleared r) s old = rw elsewhere
-  named true (role.Commands g) s old = rw elsewhere
-  named true (role.Enables r) s old = rw elsewhere
-  named true (role.Address q) s old = go (eqb q i)
+  named true role.Plain s old = refl
+  named true (role.Cleared r) s old = refl
+  named true (role.Commands g) s old = refl
+  named true (role.Enables r) s old = refl
+  named true (role.Address q) s old = rw (eqb_turned i q) (go (eqb q i))
     where
       go : (u : Bool) → cond u s old ≡ or_else (cond (u && true) (some s) none) old
       go true = refl
       go false = refl
-  named false role s old = rw (elsewhere, and-false (is_address i role))
+  named false role s old = rw (and-false (is_address i role))
 
   taken_in_lem : Told (stored (selected_by h) c h w)
   unfolding accepted

@@ -5,6 +5,7 @@
 --   step_bit          == one record clears a bit, or leaves it and adds its event
 --   bits_after        == the same along a list of records, from any bits at all
 --   change_bits_by_past == demand 3
+use Rattle.std.specs.Prelude.{Option}
 use Prim.Native.Nat.{ℕ, zero, suc, ◌+◌, ◌*◌, ◌/◌, ◌%◌, ◌<◌}
 use mathlib.Core.Path.{◌≡◌, refl, sym, ap, ◌∙◌}
 use mathlib.Core.Bool.{Bool, true, false, cond, not, ◌&&◌, ◌||◌, and-true, and-false, or-false}
@@ -261,7 +262,7 @@ uncounted : (nine : Nine) (i : ℕ) → counted_in nine nine i ≡ false
 uncounted nine i = rw (eq-eqb (counter_of nine i address_changes) (counter_of nine i address_changes) refl)
 
 -- a completed address write moves none
-written_uncounted : (port : ℕ) (source : List ℕ) (nine : Nine) (i : ℕ) → counted_in nine (addressed_at port source nine) i ≡ false
+written_uncounted : (port : Option ℕ) (source : List ℕ) (nine : Nine) (i : ℕ) → counted_in nine (addressed_at port source nine) i ≡ false
 written_uncounted port source nine i = rw (counter_addressed port source nine i address_changes) (uncounted nine i)
 
 -- WHAT STANDS AT EVERY POINT OF A RUN

@@ -12,7 +12,7 @@ use Prim.Native.Nat.{ℕ, ◌+◌, ◌%◌, ◌^◌, ◌<◌}
 use mathlib.Core.Path.{◌≡◌, refl, ap, ◌∙◌}
 use mathlib.Core.List.{List, [], ◌∷◌}
 use native.Mathlib.Omega.{arith}
-use Rattle.ports.specs.Sets.{nobody}
+use Rattle.std.specs.Prelude.{Option, None}
 use Rattle.record.specs.declared.Burst.{Burst}
 use Rattle.record.specs.declared.Access.{Access}
 use Rattle.record.specs.declared.Asked.{Asked}
@@ -107,7 +107,7 @@ pub data Sort (p : Point) (bs : List ℕ) : Type 0 where
 
 module _ (p : Point) (bs : List ℕ) where
   -- an address is written at most
-  left : (q : ℕ) (source : List ℕ) → (happens p bs).after.chip.attributes ≡ addressed_at q source p.chip.attributes
+  left : (q : Option ℕ) (source : List ℕ) → (happens p bs).after.chip.attributes ≡ addressed_at q source p.chip.attributes
       → (happens p bs).after.chip.core.kept ≡ p.chip.core.kept → ((x : ℕ) (f : Burst → ℕ) → if_burst x f (record_of bs).asked ≡ x) → Left p bs
   unfolding happening credit collision_credit octet_credit
   left q source e k n = record {
@@ -128,11 +128,11 @@ module _ (p : Point) (bs : List ℕ) where
     where
       go : (a : Asked) → (record_of bs).asked ≡ a → Sort p bs
       go (ask.Burst b) e = burst b e
-      go (ask.Quiet q) e = other (left nobody [] (rw e) (rw e) (λ x f. rw e))
+      go (ask.Quiet q) e = other (left None [] (rw e) (rw e) (λ x f. rw e))
       go (ask.Access a) e =
           other (left (acted a).port (acted a).host.bytes (rw e) (rw e (served_kept p.chip.core p.chip.attributes p.host a)) (λ x f. rw e))
-      go ask.Reset e = other (left nobody [] (rw e) (rw e) (λ x f. rw e))
-      go (ask.Refused k) e = other (left nobody [] (rw e) (rw e) (λ x f. rw e))
+      go ask.Reset e = other (left None [] (rw e) (rw e) (λ x f. rw e))
+      go (ask.Refused k) e = other (left None [] (rw e) (rw e) (λ x f. rw e))
 
 -- ONE RECORD
 

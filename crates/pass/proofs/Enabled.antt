@@ -23,7 +23,7 @@ use Rattle.management.specs.declared.Setting.TheVariants.{AlternateAui, Alternat
 use Rattle.management.specs.declared.Query.{Query}
 use Rattle.management.specs.Status.{cleared_by}
 use Rattle.repeater.specs.declared.Repeater.{Repeater}
-use Rattle.repeater.specs.declared.Those.TheVariants.{Enabled}
+use Rattle.repeater.specs.Those.{Enabled}
 use Rattle.repeater.specs.Door.{with_alternate, places_of, port_at}
 use Rattle.repeater.specs.Repeater.{quieted, burst_of, changed_at, changed_tp, set_to, got_of, among, enabled_of}
 use Rattle.repeater.specs.Events.{disables}

@@ -11,9 +11,9 @@ use mathlib.Core.Path.{◌≡◌, refl, sym, ap, subst}
 use mathlib.Core.Bool.{Bool, true, false}
 use mathlib.Core.List.{List, [], ◌∷◌, ◌++◌, map}
 use lib.Dec.{lit<, lit≤}
+use Rattle.std.specs.Prelude.{Ok}
 use lib.ListN.{length, get_or, take, drop, replicate}
 use Rattle.ports.specs.Sets.{aui}
-use Rattle.attributes.specs.declared.octets.Check.TheVariants.{Yes}
 use Rattle.attributes.specs.Octets.{difference_of, check_of}
 use Rattle.attributes.specs.Sums.{sum_over}
 use Rattle.attributes.proofs.NineLaws.{address_alike}
@@ -119,7 +119,7 @@ totals_at = found_once happens (totals_moved earlier) earlier rest refl
 -- frames credited, and what the readings of frames and octets differ by
 abbrev Bounded : ℕ → ℕ → ℕ → Type 0
 Bounded credited frames octets =
-    (credited ≤ 2829359) × (64 * credited ≤ octets) × (octets ≤ 1518 * credited) × (check_of frames octets ≡ Yes)
+    (credited ≤ 2829359) × (64 * credited ≤ octets) × (octets ≤ 1518 * credited) × (check_of frames octets ≡ Ok true)
 
 bounded : Bounded 2 2 128
 unfolding check_of

@@ -80,8 +80,7 @@ module _ (p : Point) (fit : Fit p) (l : ℕ) (is : limit_at p ≡ l) (r : List �
   only : (q : ℕ) → Falls l b q → OnlyClass (credit_of (due_in p b (record_of r).source) b i) q
   unfolding happening
   only q f =
-      subst (λ (k : ℕ). OnlyClass (credit_of (due_in p b (record_of r).source) b k) q) h.single
-      (single_port p.chip.attributes (met_in p b) b (record_of r).source q h.calm (subst (λ (k : ℕ). Falls k b q) (sym is) f))
+      single_port p.chip.attributes (met_in p b) b (record_of r).source i q h.single h.calm (subst (λ (k : ℕ). Falls k b q) (sym is) f)
 
   credit_is : (k n : ℕ) → credit_of (due_in p b (record_of r).source) b i k ≡ n → k < 13
       → counter_at i k (happens p r).after ≡ (counter_at i k (happens p r).before + n) % 2 ^ 32

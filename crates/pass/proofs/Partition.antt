@@ -26,7 +26,7 @@ use Rattle.port.specs.Standing.{standing_of, event_of}
 use Rattle.port.proofs.Standing.{stays}
 use Rattle.management.specs.declared.Setting.{Setting}
 use Rattle.repeater.specs.declared.Repeater.{Repeater}
-use Rattle.repeater.specs.declared.Those.TheVariants.{Partitioned}
+use Rattle.repeater.specs.Those.{Partitioned}
 use Rattle.repeater.specs.Door.{port_at}
 use Rattle.repeater.specs.Repeater.{quieted, set_to, got_of, burst_of, among, enabled_of, partitioned_of}
 use Rattle.repeater.specs.Events.{standing_at, followed_event, burst_event, set_event}

@@ -6,12 +6,11 @@ use Prim.Native.Nat.{ℕ, ◌+◌, ◌*◌, ◌%◌, ◌^◌, ◌≤◌, ◌<◌
 use mathlib.Core.Path.{◌≡◌, refl, sym, ap, ap₂, ◌∙◌}
 use mathlib.Core.List.{List, [], ◌∷◌}
 use native.Mathlib.Omega.{arith}
-use borrow.Author.Tests.{le-leb, le-ltb}
 use lib.Dec.{lit<}
 use Rattle.record.specs.Refusals.{record_of}
-use Rattle.attributes.specs.declared.octets.Check.TheVariants.{Yes}
-use Rattle.attributes.specs.Octets.{difference_of, check_of}
+use Rattle.attributes.specs.Octets.{difference_of}
 use Rattle.attributes.specs.Sums.{sum_over}
+use Rattle.attributes.proofs.OctetCheck.{difference_of_sum, check_passed}
 use Rattle.attributes.proofs.Sums.{sum_same, sum_none, sum_both, sum_modulo}
 use Rattle.attributes.proofs.NineLaws.{octets_summed, octets_sized}
 use Rattle.himib.specs.Runs.{Point, start, counter_at, total_octets, history_of}
@@ -65,24 +64,17 @@ module _ (i : ℕ) where
 
 -- A RUN
 
-differ : (later earlier s : ℕ) → earlier < 2 ^ 32 → later ≡ (earlier + s) % 2 ^ 32 → difference_of later earlier ≡ s % 2 ^ 32
-differ later earlier s l e = omega arith
-
-check_passed : (f o : ℕ) → f ≤ 2829359 → 64 * f ≤ o → o ≤ 1518 * f → check_of f o ≡ Yes
-unfolding check_of
-check_passed f o l a b = rw (le-ltb 2829359 f l, le-leb (64 * f) o a, le-leb o (1518 * f) b)
-
 module _ (p : Point) (fit : Fit p) (rs : List (List ℕ)) where
   reading : (i r : ℕ) → i < 9 → r < 13 → difference_of (counter_at i r (run p rs)) (counter_at i r p) ≡ sum_of (credit i r) (history p rs) % 2 ^ 32
-  reading i r l m = differ _ _ _ (fit.attributes.low i r l m) ((counted_from p fit rs).each_counter i r l m)
+  reading i r l m = difference_of_sum _ _ _ (fit.attributes.low i r l m) ((counted_from p fit rs).each_counter i r l m)
 
   reading_octets : difference_of (total_octets (run p rs)) (total_octets p) ≡ sum_of octet_credit (history p rs) % 2 ^ 32
-  reading_octets = differ _ _ _ fit.octets-low (counted_from p fit rs).octets
+  reading_octets = difference_of_sum _ _ _ fit.octets-low (counted_from p fit rs).octets
 
   pub between : Between p rs
   between = record {
     readings = reading;
-    collisions = differ _ _ _ fit.collisions-low (counted_from p fit rs).collisions;
+    collisions = difference_of_sum _ _ _ fit.collisions-low (counted_from p fit rs).collisions;
     octets = reading_octets;
     totals =
         reading_octets

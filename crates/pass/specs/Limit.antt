@@ -7,7 +7,7 @@
 --   Judges l h b i   == it is counted in Short Events (R 5) if it lasts fewer bit times than l, and not otherwise; at l itself it is a runt (R 6)
 --   Decided          == so it is of every power-up, and after any records; LimitDecides == that is the promise
 -- Assumes nothing.
-use Rattle.std.specs.Prelude.{ℕ, ◌+◌, ◌%◌, ◌^◌, ◌≤◌, ◌<◌, ◌≡◌, false, List}
+use Rattle.std.specs.Prelude.{ℕ, ◌+◌, ◌%◌, ◌^◌, ◌≤◌, ◌<◌, ◌≡◌, false, List, Some}
 use Rattle.history.specs.Exactly.{Exactly}
 use Rattle.record.specs.declared.Burst.{Burst}
 use Rattle.record.specs.declared.Asked.TheVariants as ask
@@ -35,7 +35,7 @@ pub record Answered (given : Supply) : Type 0 where
 pub record HeardAlone (h : Happening) (b : Burst) (i : ℕ) : Type 0 where
   pub burst : asked h ≡ ask.Burst b
   pub port : i < 9
-  pub single : (burst_at h b).effect.single ≡ i
+  pub single : (burst_at h b).effect.single ≡ Some i
   pub calm : (burst_at h b).effect.collision ≡ false
 
 -- counter R of port i before and after it

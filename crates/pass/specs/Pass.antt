@@ -3,7 +3,7 @@
 -- chip before and after a record, and not by a change bit. What a burst is to a port, and what it is due, are taken from the definitions that the code is held
 -- to; the crate alone says all of it once more by the records that came before, where nothing of the chip occurs.
 -- Assumes nothing.
-use Rattle.std.specs.Prelude.{ℕ, ◌+◌, ◌*◌, ◌%◌, ◌^◌, ◌≤◌, ◌<◌, ◌≡◌, Bool, true, false, cond, not, ◌&&◌, ◌||◌, List, [], ◌∷◌, map, eqb, ltb, length, get_or, take}
+use Rattle.std.specs.Prelude.{ℕ, ◌+◌, ◌*◌, ◌%◌, ◌^◌, ◌≤◌, ◌<◌, ◌≡◌, Bool, true, false, cond, not, ◌&&◌, ◌||◌, List, [], ◌∷◌, Ok, map, eqb, ltb, length, get_or, take}
 use Rattle.std.specs.Bool.{beq}
 use Rattle.std.proofs.Math.Option.{Option, none, some}
 use Rattle.spelling.specs.Spelling.{spelt}
@@ -31,7 +31,6 @@ use Rattle.answer.specs.declared.Answer.TheVariants.{Refused}
 use Rattle.answer.specs.Answer.{outputs_of, byte_of}
 use Rattle.attributes.specs.declared.Met.{Met}
 use Rattle.attributes.specs.declared.Due.{Due}
-use Rattle.attributes.specs.declared.octets.Check.TheVariants.{Yes}
 use Rattle.attributes.specs.Credits.{due_of, credit_of}
 use Rattle.attributes.specs.Octets.{difference_of, check_of}
 use Rattle.attributes.specs.Sums.{sum_over}
@@ -221,7 +220,7 @@ pub record Between (p : Point) (rs : List (List ℕ)) : Type 0 where
       → (difference_of (counter_at i 0 (run p rs)) (counter_at i 0 p) ≡ sum_of (credit i 0) (history p rs))
       × (64 * sum_of (credit i 0) (history p rs) ≤ difference_of (counter_at i 1 (run p rs)) (counter_at i 1 p))
       × (difference_of (counter_at i 1 (run p rs)) (counter_at i 1 p) ≤ 1518 * sum_of (credit i 0) (history p rs))
-      × (check_of (difference_of (counter_at i 0 (run p rs)) (counter_at i 0 p)) (difference_of (counter_at i 1 (run p rs)) (counter_at i 1 p)) ≡ Yes)
+      × (check_of (difference_of (counter_at i 0 (run p rs)) (counter_at i 0 p)) (difference_of (counter_at i 1 (run p rs)) (counter_at i 1 p)) ≡ Ok true)
 
 abbrev pub ReadingsByPast : Type 0
 ReadingsByPast =

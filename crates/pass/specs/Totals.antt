@@ -12,11 +12,10 @@
 --   Missed                == 2^32 credits between two readings leave no trace in them
 --   PremiseIsNeeded       == so it is wherever exactly 2^32 fall, and there are such runs: 2^32 frames, and 2^26 frames of 64 octets for the octets
 -- Assumes nothing.
-use Rattle.std.specs.Prelude.{ℕ, zero, suc, ◌+◌, ◌*◌, ◌^◌, ◌≤◌, ◌<◌, ◌≡◌, cond, List, [], ◌∷◌, ◌++◌, eqb, take}
+use Rattle.std.specs.Prelude.{ℕ, zero, suc, ◌+◌, ◌*◌, ◌^◌, ◌≤◌, ◌<◌, ◌≡◌, cond, List, [], ◌∷◌, ◌++◌, Some, None, eqb, take}
 use Rattle.spelling.specs.Spelling.{spelt}
 use Rattle.ports.specs.Sets.{aui}
 use Rattle.record.specs.Records.{burst_record}
-use Rattle.attributes.specs.declared.octets.Total.TheVariants.{Sum, TooLarge}
 use Rattle.attributes.specs.Octets.{total_of, answered}
 use Rattle.chip.specs.declared.Supply.{Supply}
 use Rattle.himib.specs.Runs.{Point, Happening, start, Given, counter_at, transmit_collisions, total_octets}
@@ -65,8 +64,8 @@ Few c p (rs ∷ pieces) = (sum_of (credit_to c) (history p rs) < 2 ^ 32) × Few 
 -- readings whose first was taken at p and whose others were taken behind each of the pieces
 pub record Summed (c : Counter) (p : Point) (pieces : List (List (List ℕ))) (readings : List ℕ) : Type 0 where
   pub whole : summed readings ≡ sum_of (credit_to c) (history p (joined pieces))
-  pub fits : sum_of (credit_to c) (history p (joined pieces)) < 2 ^ 64 → answered (summed readings) ≡ Sum (sum_of (credit_to c) (history p (joined pieces)))
-  pub too_large : 2 ^ 64 ≤ sum_of (credit_to c) (history p (joined pieces)) → answered (summed readings) ≡ TooLarge
+  pub fits : sum_of (credit_to c) (history p (joined pieces)) < 2 ^ 64 → answered (summed readings) ≡ Some (sum_of (credit_to c) (history p (joined pieces)))
+  pub too_large : 2 ^ 64 ≤ sum_of (credit_to c) (history p (joined pieces)) → answered (summed readings) ≡ None
 
 abbrev pub TotalsByPolls : Type 0
 TotalsByPolls =

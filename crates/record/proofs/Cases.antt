@@ -1,7 +1,7 @@
 -- The answer for each way through the code: the table of refusals, read with the tests that led there.
 -- Assumes nothing.
 use Prim.Native.Nat.{ℕ}
-use mathlib.Core.Path.{◌≡◌, refl}
+use mathlib.Core.Path.{◌≡◌, refl, sym}
 use mathlib.Core.List.{List}
 use mathlib.Core.Bool.{Bool, true, false, cond}
 use borrow.Author.Tests.{ne_eqb}
@@ -12,7 +12,12 @@ use Rattle.record.specs.Record.{record_length, kinds, find, mask, byte_at, numbe
 use Rattle.record.specs.Record.{burst_kind, pulse_kind, tick_kind, c_write_kind, d_write_kind, c_read_kind, d_read_kind, reset_kind}
 use Rattle.record.specs.Refusals.{burst_mask_end, pulse_mask_end, bad_numbers, nothing_active, selects_neither}
 use Rattle.record.specs.Refusals.{refusals, first_of, refused, accepted, asked_by, answer, record_of}
+use Rattle.std.specs.Prelude.{Result, Ok, Err}
+use Rattle.record.specs.Reading.{kind_code, Reads, ReadsBare}
 use Rattle.record.specs.declared.Access.{Access}
+use Rattle.record.specs.declared.Kind.{Kind as Numbered}
+use Rattle.record.specs.declared.Kind.TheVariants as kind
+use Rattle.record.specs.declared.Refusal.{Refusal}
 use Rattle.record.specs.declared.Asked.{Asked}
 use Rattle.record.specs.declared.Burst.{Burst}
 
@@ -102,20 +107,23 @@ module _ (s : List ℕ) (sized : length s ≡ record_length) where
   unfolding stray find
   reset e = plain reset_kind e refl refl refl
 
-  pub unknown :
-      (byte_at s 0 ≡ burst_kind → ⊥) → (byte_at s 0 ≡ pulse_kind → ⊥) → (byte_at s 0 ≡ tick_kind → ⊥) → (byte_at s 0 ≡ c_write_kind → ⊥) →
-      (byte_at s 0 ≡ d_write_kind → ⊥) → (byte_at s 0 ≡ c_read_kind → ⊥) → (byte_at s 0 ≡ d_read_kind → ⊥) → (byte_at s 0 ≡ reset_kind → ⊥) →
-      refused 8 ≡ record_of s
+  pub unknown : ((k : Numbered) → kind_code k ≡ byte_at s 0 → ⊥) → refused 8 ≡ record_of s
   unfolding record_of refusals first_of answer stray find
-  unknown h1 h2 h3 h4 h5 h6 h7 h8 =
+  unknown none =
+      let other : (k : Numbered) → eqb (byte_at s 0) (kind_code k) ≡ false = λ k. ne_eqb (byte_at s 0) (kind_code k) (λ e. none k (sym e)) in
       simp (
         sized,
-        ne_eqb (byte_at s 0) burst_kind h1,
-        ne_eqb (byte_at s 0) pulse_kind h2,
-        ne_eqb (byte_at s 0) tick_kind h3,
-        ne_eqb (byte_at s 0) c_write_kind h4,
-        ne_eqb (byte_at s 0) d_write_kind h5,
-        ne_eqb (byte_at s 0) c_read_kind h6,
-        ne_eqb (byte_at s 0) d_read_kind h7,
-        ne_eqb (byte_at s 0) reset_kind h8,
+        other kind.Burst,
+        other kind.Pulse,
+        other kind.Tick,
+        other kind.WriteC,
+        other kind.WriteD,
+        other kind.ReadC,
+        other kind.ReadD,
+        other kind.Reset,
       )
+
+-- a kind whose number is all that may stand in the record
+pub bare : (s : List ℕ) (a : Asked) (r : Result Asked Refusal) → cond (stray tick_kind s) (refused 8) (accepted a s) ≡ record_of s → ReadsBare s a r → Reads s r
+bare s a (Ok x) h (e, clear) = rw e (rw clear at h)
+bare s a (Err why) h (e, stray) = rw e (rw stray at h)

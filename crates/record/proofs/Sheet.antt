@@ -1,5 +1,6 @@
 -- Document 01's record and its refusals at chosen bytes: each number, each kind, each limit from both sides, and the order of
 -- the rows. The expected answers are read off the paper.
+--     numbers_listed        the number of each refusal
 --     zero_places           the bytes that must be zero, kind by kind
 --     burst                 the bytes of a burst from a chosen address
 --     sheet, sheet_holds    bytes with what they ask for, and that they do
@@ -12,10 +13,27 @@ use mathlib.Core.Bool.{Bool, true, false}
 use lib.ListN.{set, replicate}
 use Rattle.ports.specs.declared.Quiet.{Quiet}
 use Rattle.record.specs.Record.{tick_kind, c_read_kind, bytes_from, Kind, kinds, find, used, unused, must_be_zero, all_zero, stray}
+use Rattle.record.specs.Numbers.{number_of}
 use Rattle.record.specs.Refusals.{bad_numbers, nothing_active, selects_neither, refusals, first_of, answer, refused, record_of}
 use Rattle.record.specs.Records.{from, burst_record, plain_record, pulse_record, tick_record, c_write_record, d_write_record, c_read_record, d_read_record, reset_record}
 use Rattle.record.specs.declared.Access.{Access}
 use Rattle.record.specs.declared.Asked.{Asked}
+use Rattle.record.specs.declared.Refusal.TheVariants as refusal
+
+pub numbers_listed :
+    map number_of
+    (refusal.NothingActive
+    ∷ refusal.BadNumbers
+    ∷ refusal.BadMask
+    ∷ refusal.UnlistedCommand
+    ∷ refusal.UnlistedRegister
+    ∷ refusal.WrongDirection
+    ∷ refusal.SelectsNeither
+    ∷ refusal.StrayBytes
+    ∷ refusal.WrongLength
+    ∷ [])
+    ≡ 1 ∷ 2 ∷ 3 ∷ 4 ∷ 5 ∷ 6 ∷ 7 ∷ 8 ∷ 9 ∷ []
+numbers_listed = refl
 
 pub zero_places :
     map (λ (e : Kind). must_be_zero e.uses) kinds

@@ -55,10 +55,8 @@ or_five a b c d e = simp (or_zero, both_zero)
 abbrev or_of_six : ℕ → ℕ → ℕ → ℕ → ℕ → ℕ → ℕ
 or_of_six a b c d e f = bit_or (bit_or (bit_or (bit_or (bit_or a b) c) d) e) f
 
-or_total : (p q a b c d e f : ℕ) → eqb (p + q + or_of_six a b c d e f) 0 ≡ eqb (p + q + (a + b + c + d + e + f)) 0
-or_total p q a b c d e f =
-    let six : eqb (or_of_six a b c d e f) 0 ≡ eqb (a + b + c + d + e + f) 0 = simp (or_zero, both_zero) in
-    sym (both_zero (p + q) (or_of_six a b c d e f)) ∙ ap (λ (t : Bool). eqb (p + q) 0 && t) six ∙ both_zero (p + q) (a + b + c + d + e + f)
+or_total : (p q a b c d e f : ℕ) → eqb (bit_or (bit_or p q) (or_of_six a b c d e f)) 0 ≡ eqb (p + q + (a + b + c + d + e + f)) 0
+or_total p q a b c d e f = simp (or_zero, both_zero)
 
 -- the word of four bytes at place i
 abbrev word_at : List ℕ → ℕ → ℕ
@@ -66,12 +64,12 @@ word_at s i = spelt (bytes_from s i 3)
 
 -- the first word and the fourth, p and q, with the six others that are zero in every kind but a burst
 abbrev words : List ℕ → ℕ → ℕ → ℕ
-words s p q = p + q + or_of_six (word_at s 4) (word_at s 8) (word_at s 16) (word_at s 20) (word_at s 24) (word_at s 28)
+words s p q = bit_or (bit_or p q) (or_of_six (word_at s 4) (word_at s 8) (word_at s 16) (word_at s 20) (word_at s 24) (word_at s 28))
 
 abbrev word_sum : List ℕ → ℕ → ℕ → ℕ
 word_sum s p q = p + q + (word_at s 4 + word_at s 8 + word_at s 16 + word_at s 20 + word_at s 24 + word_at s 28)
 
--- row 8 by words: their sum is zero exactly if that of the bytes is
+-- row 8 by words: their bitwise or is zero exactly if the sum of the bytes is
 by_words : (s is : List ℕ) (p q : ℕ) → (total s (1 ∷ is) ≡ 0 → word_sum s p q ≡ 0) → (word_sum s p q ≡ 0 → total s (1 ∷ is) ≡ 0)
     → (not (all_zero s (1 ∷ is)) || bit_above last_flag (byte_at s 1)) ≡ not (eqb (words s p q) 0)
 by_words s is p q f g =

@@ -2,14 +2,79 @@
 // turned away with 9, 8, 3, 2, 1 or 7. There is no state. The numbers 5, 6, 4 and 10 are not decided here.
 #![tactic(auto)]
 
-ghost use Rattle.std.specs.Prelude.{◌≡◌, cond, ℕ, ◌+◌, ◌*◌, ◌≤◌, ◌<◌, ltb, length};
+ghost use Rattle.std.specs.Prelude.{◌≡◌, ℕ, ◌+◌, ◌≤◌, ◌<◌};
 ghost use Rattle.std.specs.Int.Bits.{bit_or};
 ghost use Rattle.spelling.specs.Spelling.{spelt};
 ghost use Rattle.record.specs.Record.{burst_kind, pulse_kind, tick_kind, c_write_kind, d_write_kind};
-ghost use Rattle.record.specs.Record.{record_length, byte_at, bytes_from, bit, burst_of, stray};
+ghost use Rattle.record.specs.Record.{byte_at, bytes_from, bit, burst_of, stray};
+ghost use Rattle.record.specs.Numbers.{number_of};
 ghost use Rattle.record.specs.Refusals.{bad_numbers, nothing_active, selects_neither, refused, accepted, record_of};
+ghost use Rattle.record.specs.Reading.{kind_code, Decodes, Reads, ReadsBare};
 
 use ports::Quiet;
+
+// Why something is turned away, by the number that is written for it.
+#[derive(Clone, Copy, PartialEq, Eq)]
+pub enum Refusal {
+    NothingActive = 1,
+    BadNumbers = 2,
+    BadMask = 3,
+    UnlistedCommand = 4,
+    UnlistedRegister = 5,
+    WrongDirection = 6,
+    SelectsNeither = 7,
+    StrayBytes = 8,
+    WrongLength = 9,
+}
+
+impl From<Refusal> for u8 {
+    ghost from_gives = { λ refusal number. number ≡ number_of refusal };
+
+    fn from(refusal: Refusal) -> u8 {
+        refusal as u8
+    }
+}
+
+// The kinds of record, by the number in byte 0.
+#[derive(Clone, Copy, PartialEq, Eq)]
+pub enum Kind {
+    Burst = 1,
+    Pulse = 2,
+    Tick = 3,
+    WriteC = 4,
+    WriteD = 5,
+    ReadC = 6,
+    ReadD = 7,
+    Reset = 8,
+}
+
+impl From<Kind> for u8 {
+    ghost from_gives = { λ kind number. number ≡ kind_code kind };
+
+    fn from(kind: Kind) -> u8 {
+        kind as u8
+    }
+}
+
+impl TryFrom<u8> for Kind {
+    type Error = Refusal;
+
+    ghost try_from_gives = { Decodes };
+
+    fn try_from(number: u8) -> Result<Kind, Refusal> {
+        match number {
+            1 => Ok(Kind::Burst),
+            2 => Ok(Kind::Pulse),
+            3 => Ok(Kind::Tick),
+            4 => Ok(Kind::WriteC),
+            5 => Ok(Kind::WriteD),
+            6 => Ok(Kind::ReadC),
+            7 => Ok(Kind::ReadD),
+            8 => Ok(Kind::Reset),
+            _ => Err(Refusal::StrayBytes),
+        }
+    }
+}
 
 // A burst as the record has it, with its five flags one by one.
 #[derive(Clone, Copy)]
@@ -36,7 +101,7 @@ pub enum Access {
     ReadD,
 }
 
-// What a record asks for, or the number that it is turned away with.
+// What a record asks for, or the number that it is turned away with. It holds a number and no `Refusal`: what takes an `Asked` (himib's `take`) promises its answer for every number.
 #[derive(Clone, Copy)]
 pub enum Asked {
     Burst(Burst),
@@ -58,138 +123,130 @@ pub struct Record {
 pub fn read_record(bytes: &[u8]) -> Record
     ensures { result ≡ record_of bytes.now }
 {
-    if bytes.len() != Record::LENGTH {
-        return Record::refused(9);
+    let Some(bytes) = bytes.as_array() else {
+        return Record::refused(Refusal::WrongLength);
+    };
+    match read(bytes) {
+        Ok(asked) => Record::accepted(asked, bytes),
+        Err(refusal) => Record::refused(refusal),
     }
-    match bytes[0] {
-        Record::BURST => read_burst(bytes),
-        Record::PULSE => read_pulse(bytes),
-        Record::TICK => read_bare(bytes, Asked::Quiet(Quiet::Tick)),
-        Record::C_WRITE => read_c_write(bytes),
-        Record::D_WRITE => read_d_write(bytes),
-        Record::C_READ => read_bare(bytes, Asked::Access(Access::ReadC)),
-        Record::D_READ => read_bare(bytes, Asked::Access(Access::ReadD)),
-        Record::RESET => read_bare(bytes, Asked::Reset),
-        _ => Record::refused(8),
+}
+
+// What a record of the right length asks for, or why it is turned away.
+fn read(bytes: &[u8; Record::LENGTH]) -> Result<Asked, Refusal>
+    ensures { Reads bytes.now result }
+{
+    match Kind::try_from(bytes[0])? {
+        Kind::Burst => read_burst(bytes),
+        Kind::Pulse => read_pulse(bytes),
+        Kind::Tick => read_bare(bytes, Asked::Quiet(Quiet::Tick)),
+        Kind::WriteC => read_c_write(bytes),
+        Kind::WriteD => read_d_write(bytes),
+        Kind::ReadC => read_bare(bytes, Asked::Access(Access::ReadC)),
+        Kind::ReadD => read_bare(bytes, Asked::Access(Access::ReadD)),
+        Kind::Reset => read_bare(bytes, Asked::Reset),
     }
 }
 
 // A burst.
-fn read_burst(bytes: &[u8]) -> Record
-    requires { (length bytes.now ≡ record_length) × (byte_at bytes.now 0 ≡ burst_kind) }
-    ensures { result ≡ record_of bytes.now }
+fn read_burst(bytes: &[u8; Record::LENGTH]) -> Result<Asked, Refusal>
+    requires { byte_at bytes.now 0 ≡ burst_kind }
+    ensures { Reads bytes.now result }
 {
     if stray_burst(bytes) {
-        return Record::refused(8);
+        return Err(Refusal::StrayBytes);
     }
     let burst = Burst::read(bytes);
     if Burst::MASK_END <= burst.mask {
-        return Record::refused(3);
+        return Err(Refusal::BadMask);
     }
     if burst.bad_numbers() {
-        return Record::refused(2);
+        return Err(Refusal::BadNumbers);
     }
     if burst.nothing_active() {
-        return Record::refused(1);
+        return Err(Refusal::NothingActive);
     }
-    Record::accepted(Asked::Burst(burst), bytes)
+    Ok(Asked::Burst(burst))
 }
 
 // Link pulses.
-fn read_pulse(bytes: &[u8]) -> Record
-    requires { (length bytes.now ≡ record_length) × (byte_at bytes.now 0 ≡ pulse_kind) }
-    ensures { result ≡ record_of bytes.now }
+fn read_pulse(bytes: &[u8; Record::LENGTH]) -> Result<Asked, Refusal>
+    requires { byte_at bytes.now 0 ≡ pulse_kind }
+    ensures { Reads bytes.now result }
 {
     if stray_pulse(bytes) {
-        return Record::refused(8);
+        return Err(Refusal::StrayBytes);
     }
-    let mask = number16(bytes, 2);
+    let mask = spelling::two(bytes[2], bytes[3]);
     if Record::PULSE_MASK_END <= mask {
-        return Record::refused(3);
+        return Err(Refusal::BadMask);
     }
-    Record::accepted(Asked::Quiet(Quiet::Pulse(mask)), bytes)
+    Ok(Asked::Quiet(Quiet::Pulse(mask)))
 }
 
 // A C write.
-fn read_c_write(bytes: &[u8]) -> Record
-    requires { (length bytes.now ≡ record_length) × (byte_at bytes.now 0 ≡ c_write_kind) }
-    ensures { result ≡ record_of bytes.now }
+fn read_c_write(bytes: &[u8; Record::LENGTH]) -> Result<Asked, Refusal>
+    requires { byte_at bytes.now 0 ≡ c_write_kind }
+    ensures { Reads bytes.now result }
 {
     if stray_write(bytes) {
-        return Record::refused(8);
+        return Err(Refusal::StrayBytes);
     }
     if selects_neither(bytes[13]) {
-        return Record::refused(7);
+        return Err(Refusal::SelectsNeither);
     }
-    Record::accepted(Asked::Access(Access::WriteC(bytes[13])), bytes)
+    Ok(Asked::Access(Access::WriteC(bytes[13])))
 }
 
 // A D write.
-fn read_d_write(bytes: &[u8]) -> Record
-    requires { (length bytes.now ≡ record_length) × (byte_at bytes.now 0 ≡ d_write_kind) }
-    ensures { result ≡ record_of bytes.now }
+fn read_d_write(bytes: &[u8; Record::LENGTH]) -> Result<Asked, Refusal>
+    requires { byte_at bytes.now 0 ≡ d_write_kind }
+    ensures { Reads bytes.now result }
 {
     if stray_write(bytes) {
-        return Record::refused(8);
+        return Err(Refusal::StrayBytes);
     }
-    Record::accepted(Asked::Access(Access::WriteD(bytes[13])), bytes)
+    Ok(Asked::Access(Access::WriteD(bytes[13])))
 }
 
 // A kind whose number is all that may stand in the record: a tick, a read or a reset.
-fn read_bare(bytes: &[u8], asked: Asked) -> Record
-    requires { length bytes.now ≡ record_length }
-    ensures { result ≡ cond (stray tick_kind bytes.now) (refused 8) (accepted asked bytes.now) }
+fn read_bare(bytes: &[u8; Record::LENGTH], asked: Asked) -> Result<Asked, Refusal>
+    ensures { ReadsBare bytes.now asked result }
 {
     if stray_bare(bytes) {
-        return Record::refused(8);
+        return Err(Refusal::StrayBytes);
     }
-    Record::accepted(asked, bytes)
+    Ok(asked)
 }
 
 impl Record {
     // How many bytes a record has.
     pub const LENGTH: usize = 32;
 
-    // The kinds, by the number in byte 0.
-    pub const BURST: u8 = 1;
-
-    pub const PULSE: u8 = 2;
-
-    pub const TICK: u8 = 3;
-
-    pub const C_WRITE: u8 = 4;
-
-    pub const D_WRITE: u8 = 5;
-
-    pub const C_READ: u8 = 6;
-
-    pub const D_READ: u8 = 7;
-
-    pub const RESET: u8 = 8;
-
     // The least mask with a bit above those of the TP ports.
     const PULSE_MASK_END: u16 = 1 << ports::AUI;
 
-    // Bytes that are turned away with a number.
-    fn refused(number: u8) -> Record
-        ensures { result ≡ refused number }
+    // Bytes that are turned away.
+    fn refused(refusal: Refusal) -> Record
+        ensures { result ≡ refused (number_of refusal) }
     {
-        let source = [0u8; 6];
         Record {
-            asked: Asked::Refused(number),
-            source,
+            asked: Asked::Refused(refusal.into()),
+            source: [0; 6],
         }
     }
 
     // Bytes that ask for this, with their source address.
-    fn accepted(asked: Asked, bytes: &[u8]) -> Record
-        requires { length bytes.now ≡ record_length }
+    #[tactic(auto, unfolding(crate::specs::Record::bytes_from))]
+    fn accepted(asked: Asked, bytes: &[u8; Record::LENGTH]) -> Record
         ensures { result ≡ accepted asked bytes.now }
     {
-        let source = [
-            bytes[24], bytes[25], bytes[26], bytes[27], bytes[28], bytes[29],
-        ];
-        Record { asked, source }
+        Record {
+            asked,
+            source: [
+                bytes[24], bytes[25], bytes[26], bytes[27], bytes[28], bytes[29],
+            ],
+        }
     }
 }
 
@@ -207,13 +264,13 @@ impl Burst {
     const FLAGS_END: u8 = 32;
 
     // The fields of a burst, whatever they hold.
-    fn read(bytes: &[u8]) -> Burst
-        requires { length bytes.now ≡ record_length }
+    #[tactic(auto, unfolding(crate::specs::Record::bytes_from))]
+    fn read(bytes: &[u8; Record::LENGTH]) -> Burst
         ensures { result ≡ burst_of bytes.now }
     {
         let flags = bytes[1];
         Burst {
-            mask: number16(bytes, 2),
+            mask: spelling::two(bytes[2], bytes[3]),
             fcs_bad: flag(flags, 0),
             rate_error: flag(flags, 1),
             collision_signal: flag(flags, 2),
@@ -227,106 +284,71 @@ impl Burst {
         }
     }
 
-    // Row 2: a duration, a count or a sum out of its bounds.
+    // Row 2: a duration, a count or a sum out of its bounds. In 64 bits the sums are the true ones.
+    #[tactic(auto, unfolding(crate::specs::Refusals::bad_numbers))]
     fn bad_numbers(self) -> bool
         ensures { result ≡ bad_numbers self }
     {
-        if self.d == 0 {
-            return true;
-        }
-        if Burst::LONGEST < self.d {
-            return true;
-        }
-        if Burst::MOST_DRIBBLE < self.k {
-            return true;
-        }
-        if octets_past(self.d, self.n, self.k) {
-            return true;
-        }
-        collision_past(self.d, self.c, self.x)
+        self.d == 0
+            || Burst::LONGEST < self.d
+            || Burst::MOST_DRIBBLE < self.k
+            || u64::from(self.d) < 8 * u64::from(self.n) + u64::from(self.k)
+            || u64::from(self.d) < u64::from(self.c) + u64::from(self.x)
     }
 
     // Row 1: no port is active, and no AUI collision signal either.
+    #[tactic(auto, unfolding(crate::specs::Refusals::nothing_active))]
     fn nothing_active(self) -> bool
         ensures { result ≡ nothing_active self }
     {
-        if self.mask == 0 {
-            return !self.collision_signal;
-        }
-        false
+        self.mask == 0 && !self.collision_signal
     }
-}
-
-// Whether 8n + k is above d. In 64 bits the sum is the true one.
-fn octets_past(d: u32, n: u32, k: u8) -> bool
-    ensures { result ≡ ltb d (8 * n + k) }
-{
-    long(d) < 8 * long(n) + byte(k)
-}
-
-// Whether c + x is above d.
-fn collision_past(d: u32, c: u32, x: u32) -> bool
-    ensures { result ≡ ltb d (c + x) }
-{
-    long(d) < long(c) + long(x)
 }
 
 // Row 7: a byte written to C that selects neither P nor R.
+#[tactic(auto, unfolding(crate::specs::Refusals::selects_neither))]
 pub fn selects_neither(byte: u8) -> bool
     ensures { result ≡ selects_neither byte }
 {
-    let top = byte >> 5;
-    if top == 0b000 {
-        return false;
-    }
-    top != 0b111
+    !matches!(byte >> 5, 0b000 | 0b111)
 }
 
 // Row 8 for a burst: flag bits 5 to 7, or byte 13, 14, 15, 30 or 31, is not zero.
-fn stray_burst(bytes: &[u8]) -> bool
-    requires { length bytes.now ≡ record_length }
+fn stray_burst(bytes: &[u8; Record::LENGTH]) -> bool
     ensures { result ≡ stray burst_kind bytes.now }
 {
-    if Burst::FLAGS_END <= bytes[1] {
-        return true;
-    }
-    bytes[13] | bytes[14] | bytes[15] | bytes[30] | bytes[31] != 0
+    Burst::FLAGS_END <= bytes[1] || bytes[13] | bytes[14] | bytes[15] | bytes[30] | bytes[31] != 0
 }
 
-// Row 8 for a link pulse: a byte other than its kind and its mask is not zero.
-fn stray_pulse(bytes: &[u8]) -> bool
-    requires { length bytes.now ≡ record_length }
+// Row 8 for a link pulse: a byte other than its kind and its mask is not zero. This function and the next two differ in the bytes that they leave out. One function
+// would have to be given the two words that have them, and be no plainer.
+fn stray_pulse(bytes: &[u8; Record::LENGTH]) -> bool
     ensures { result ≡ stray pulse_kind bytes.now }
 {
     let first = spelling::four(0, bytes[1], 0, 0);
-    let fourth = number32(bytes, 12);
-    long(first) + long(fourth) + long(other_words(bytes)) != 0
+    first | number32(bytes, 12) | other_words(bytes) != 0
 }
 
 // Row 8 for a C or D write: a byte other than its kind and the written one is not zero.
-fn stray_write(bytes: &[u8]) -> bool
-    requires { length bytes.now ≡ record_length }
+fn stray_write(bytes: &[u8; Record::LENGTH]) -> bool
     ensures { result ≡ stray c_write_kind bytes.now }
 {
     let first = spelling::four(0, bytes[1], bytes[2], bytes[3]);
     let fourth = spelling::four(bytes[12], 0, bytes[14], bytes[15]);
-    long(first) + long(fourth) + long(other_words(bytes)) != 0
+    first | fourth | other_words(bytes) != 0
 }
 
 // Row 8 for a kind that uses nothing more: a byte other than its kind is not zero.
-fn stray_bare(bytes: &[u8]) -> bool
-    requires { length bytes.now ≡ record_length }
+fn stray_bare(bytes: &[u8; Record::LENGTH]) -> bool
     ensures { result ≡ stray tick_kind bytes.now }
 {
     let head = spelling::four(0, bytes[1], bytes[2], bytes[3]);
-    let fourth = number32(bytes, 12);
-    long(head) + long(fourth) + long(other_words(bytes)) != 0
+    head | number32(bytes, 12) | other_words(bytes) != 0
 }
 
 // The bitwise or of the words of four bytes that must be zero in every kind but a burst: all but the first and the fourth.
-// It is zero exactly if each of them is.
-fn other_words(bytes: &[u8]) -> u32
-    requires { length bytes.now ≡ record_length }
+// It is zero exactly if each of them is. Words and not bytes one by one, for speed.
+fn other_words(bytes: &[u8; Record::LENGTH]) -> u32
     ensures { result ≡ (let word : ℕ → ℕ = λ i. spelt (bytes_from bytes.now i 3) in bit_or (bit_or (bit_or (bit_or (bit_or (word 4) (word 8)) (word 16)) (word 20)) (word 24)) (word 28)) }
 {
     number32(bytes, 4)
@@ -337,17 +359,10 @@ fn other_words(bytes: &[u8]) -> u32
         | number32(bytes, 28)
 }
 
-// The number that two bytes spell.
-fn number16(bytes: &[u8], i: usize) -> u16
-    requires { i + 2 ≤ length bytes.now }
-    ensures { result ≡ spelt (bytes_from bytes.now i 1) }
-{
-    spelling::two(bytes[i], bytes[i + 1])
-}
-
-// The number that four bytes spell.
-fn number32(bytes: &[u8], i: usize) -> u32
-    requires { i + 4 ≤ length bytes.now }
+// The number that four bytes spell. Not in `spelling`: of a slice it would have to answer where four bytes are not there.
+#[tactic(auto, unfolding(crate::specs::Record::bytes_from))]
+fn number32(bytes: &[u8; Record::LENGTH], i: usize) -> u32
+    requires { i + 4 ≤ 32 }
     ensures { result ≡ spelt (bytes_from bytes.now i 3) }
 {
     spelling::four(bytes[i], bytes[i + 1], bytes[i + 2], bytes[i + 3])
@@ -359,17 +374,4 @@ fn flag(flags: u8, place: u8) -> bool
     ensures { result ≡ bit flags place }
 {
     (flags >> place) % 2 == 1
-}
-
-// The casts, each with the bound that a sum asks for.
-fn byte(b: u8) -> u64
-    ensures { (result ≡ b) × (result < 256) }
-{
-    b as u64
-}
-
-fn long(n: u32) -> u64
-    ensures { (result ≡ n) × (result < 4294967296) }
-{
-    n as u64
 }

@@ -21,8 +21,7 @@ use Rattle.port.specs.Reset.{tp_up, aui_up}
 use Rattle.management.specs.declared.Status.{Status}
 use Rattle.store.proofs.DoorLaws as store
 use Rattle.repeater.specs.declared.Repeater.{Repeater}
-use Rattle.repeater.specs.declared.Those.{Those}
-use Rattle.repeater.specs.declared.Those.TheVariants.{Transmitting, Listening, Partitioned, Linked, Enabled}
+use Rattle.repeater.specs.Those.{Those, Transmitting, Listening, Partitioned, Linked, Enabled}
 use Rattle.repeater.specs.Door.{with_ports, with_status, with_alternate, places_of, port_at, put_at, each_port}
 use Rattle.repeater.specs.Reset.{power_up}
 use Rattle.repeater.specs.Hearing.{transmits, listens}

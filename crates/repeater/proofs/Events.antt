@@ -39,7 +39,7 @@ use Rattle.burst.specs.Burst.{effect_of}
 use Rattle.burst.specs.Clean.{lasting_at, reconnecting_at}
 use Rattle.burst.proofs.CleanLaws.{collided_lasts_not}
 use Rattle.repeater.specs.declared.Repeater.{Repeater}
-use Rattle.repeater.specs.declared.Those.TheVariants.{Transmitting}
+use Rattle.repeater.specs.Those.{Transmitting}
 use Rattle.repeater.specs.Door.{places_of, port_at}
 use Rattle.repeater.specs.Reset.{power_up}
 use Rattle.repeater.specs.Hearing.{in_t, hearing_of, meeting_of}

@@ -5,7 +5,7 @@
 --   active_at, transmitting_at, heard_at_lem == a port is in the masks E, T and H exactly if the definition says so
 --   transmitting_below, heard_below      == only places of ports are in T and in H
 --   burst_hearing, burst_effect, burst_marks == the hearing and the effect of a burst, and the status bits that it sets
---   single_port, single_nobody           == the effect's single port is p, or nobody, exactly if p alone, or no port alone, is heard
+--   single_port, single_nobody           == the effect's single port is p, or there is none, exactly if p alone, or no port alone, is heard
 --   single_heard, unheard_single         == the single port is heard; what is not heard is not it
 --   several_heard                        == it is a transmit collision exactly if two different ports or more are heard
 --   collision_of_none, -of-one, -of-several == when it is a collision for the credits
@@ -13,8 +13,9 @@ use Prim.Native.Nat.{ℕ, ◌<◌}
 use mathlib.Core.Path.{◌≡◌, refl, sym, ◌∙◌}
 use mathlib.Core.Bool.{Bool, true, false, true≢false}
 use borrow.Author.Tests.{leb-true, leb-false}
-use lib.Dec.{eqb, leb}
-use Rattle.ports.specs.Sets.{nobody, has, set_of, None, Only, Several}
+use lib.Dec.{leb}
+use Rattle.std.specs.declared.option.Option.TheVariants as option
+use Rattle.ports.specs.Sets.{is_at, has, set_of, None, Only, Several}
 use Rattle.history.specs.Exactly.{Exactly}
 use Rattle.ports.proofs.Sets.{gather_lt, has_gather, set_true, and_second}
 use Rattle.burst.specs.declared.Activity.{Activity}
@@ -25,7 +26,7 @@ use Rattle.burst.specs.Marks.{marks_of}
 use Rattle.burst.proofs.Counted as counted
 use Rattle.burst.proofs.Counted.{heard_nothing, heard_one, heard_more}
 use Rattle.repeater.specs.declared.Repeater.{Repeater}
-use Rattle.repeater.specs.declared.Those.TheVariants.{Transmitting, Listening}
+use Rattle.repeater.specs.Those.{Transmitting, Listening}
 use Rattle.repeater.specs.Door.{places_of}
 use Rattle.repeater.specs.Hearing.{in_t, in_l, in_h, hearing_of}
 use Rattle.repeater.specs.Repeater.{followed, burst_of, among}
@@ -98,16 +99,16 @@ module _ (r : Repeater) (activity : Activity) where
   unfolding burst_of followed
   burst_marks = refl
 
-  pub single_port : (p : ℕ) → p < nobody → Exactly ((burst_of r activity).effect.single ≡ p) (Only (burst_of r activity).hearing.h p)
-  single_port p l = rw (burst_effect, burst_hearing) (counted.single_port (hearing_of r activity) activity tied heard_lt p l)
+  pub single_port : (p : ℕ) → Exactly ((burst_of r activity).effect.single ≡ option.Some p) (Only (burst_of r activity).hearing.h p)
+  single_port p = rw (burst_effect, burst_hearing) (counted.single_port (hearing_of r activity) activity tied heard_lt p)
 
-  pub single_nobody : Exactly ((burst_of r activity).effect.single ≡ nobody) ((p : ℕ) → Only (burst_of r activity).hearing.h p → ⊥)
+  pub single_nobody : Exactly ((burst_of r activity).effect.single ≡ option.None) ((p : ℕ) → Only (burst_of r activity).hearing.h p → ⊥)
   single_nobody = rw (burst_effect, burst_hearing) (counted.single_nobody (hearing_of r activity) activity tied heard_lt)
 
-  pub single_heard : (i : ℕ) → i < nobody → eqb i (burst_of r activity).effect.single ≡ true → has (burst_of r activity).hearing.h i ≡ true
+  pub single_heard : (i : ℕ) → is_at (burst_of r activity).effect.single i ≡ true → has (burst_of r activity).hearing.h i ≡ true
   single_heard = rw (burst_effect, burst_hearing) (counted.single_heard (hearing_of r activity) activity tied heard_lt)
 
-  pub unheard_single : (i : ℕ) → i < nobody → has (burst_of r activity).hearing.h i ≡ false → eqb i (burst_of r activity).effect.single ≡ false
+  pub unheard_single : (i : ℕ) → has (burst_of r activity).hearing.h i ≡ false → is_at (burst_of r activity).effect.single i ≡ false
   unheard_single = rw (burst_effect, burst_hearing) (counted.unheard_single (hearing_of r activity) activity tied heard_lt)
 
   pub several_heard : Exactly ((burst_of r activity).effect.transmit_collision ≡ true) (Several (burst_of r activity).hearing.h)

@@ -37,7 +37,7 @@ use Rattle.burst.specs.Burst.{effect_of}
 use Rattle.burst.specs.Clean.{lasting_at}
 use Rattle.burst.specs.Marks.{marks_of}
 use Rattle.repeater.specs.declared.Repeater.{Repeater}
-use Rattle.repeater.specs.declared.Those.TheVariants.{Partitioned, Linked}
+use Rattle.repeater.specs.Those.{Partitioned, Linked}
 use Rattle.repeater.specs.Door.{places_of, port_at, each_port}
 use Rattle.repeater.specs.Hearing.{hearing_of}
 use Rattle.repeater.specs.Repeater.{quiet_at, quieted, partitioned_at, port_after, met_at, followed, burst_of, changed_at, changed_tp, set_to, got_of}

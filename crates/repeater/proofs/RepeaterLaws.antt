@@ -17,7 +17,7 @@ use Rattle.store.specs.declared.Ports.{Ports}
 use Rattle.store.specs.Door.{port_in}
 use Rattle.store.proofs.Masks.{has_first}
 use Rattle.repeater.specs.declared.Repeater.{Repeater}
-use Rattle.repeater.specs.declared.Those.TheVariants.{Transmitting, Listening, Partitioned, Linked}
+use Rattle.repeater.specs.Those.{Transmitting, Listening, Partitioned, Linked}
 use Rattle.repeater.specs.Door.{port_at}
 use Rattle.repeater.specs.Hearing.{transmits, listens, in_l, in_h, hearing_of}
 use Rattle.repeater.specs.Answers.{connected_at, passing_at}

@@ -15,7 +15,7 @@ use Rattle.repeater.specs.declared.Repeater.{Repeater}
 use Rattle.repeater.specs.declared.Got.{Got}
 use Rattle.repeater.specs.Reset.{power_up}
 use Rattle.repeater.specs.Repeater.{got_of}
-use Rattle.repeater.specs.Events.{Input, burst, setting, query, reset, after_inputs}
+use Rattle.repeater.specs.Events.{Input, burst, setting, reset, after_inputs}
 use Rattle.repeater.specs.Sheet.{tick, pulse, active, passing, aui_parted, Row, row}
 
 abbrev pub answers_to : Repeater → List Query → List ℕ

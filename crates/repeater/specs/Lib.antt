@@ -2,6 +2,7 @@
 pub mod Door
 pub mod Reset
 pub mod Hearing
+pub mod Those
 pub mod Answers
 pub mod Repeater
 pub mod Events

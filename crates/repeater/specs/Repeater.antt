@@ -37,8 +37,7 @@ use Rattle.burst.specs.Marks.{marks_of}
 use Rattle.repeater.specs.declared.Repeater.{Repeater}
 use Rattle.repeater.specs.declared.Bursted.{Bursted}
 use Rattle.repeater.specs.declared.Got.{Got}
-use Rattle.repeater.specs.declared.Those.{Those}
-use Rattle.repeater.specs.declared.Those.TheVariants.{Transmitting, Listening, Partitioned, Linked, Enabled}
+use Rattle.repeater.specs.Those.{Those, Transmitting, Listening, Partitioned, Linked, Enabled}
 use Rattle.repeater.specs.Door.{with_status, with_alternate, port_at, put_at, each_port}
 use Rattle.repeater.specs.Hearing.{transmits, listens, hearing_of, meeting_of}
 use Rattle.repeater.specs.Answers.{answer_of}

@@ -15,9 +15,9 @@
 --                    partitioned ports
 --   story, told   == inputs of every kind, and the events that they are to TP0
 -- Assumes nothing.
-use Rattle.std.specs.Prelude.{ℕ, Bool, true, false, List, [], ◌∷◌, ◌++◌, replicate}
+use Rattle.std.specs.Prelude.{ℕ, Bool, true, false, Option, Some, None, List, [], ◌∷◌, ◌++◌, replicate}
 use Rattle.ports.specs.declared.Quiet.TheVariants.{Pulse, Tick}
-use Rattle.ports.specs.Sets.{aui, nobody}
+use Rattle.ports.specs.Sets.{aui}
 use Rattle.burst.specs.declared.Activity.{Activity}
 use Rattle.burst.specs.declared.Word.{Word}
 use Rattle.burst.specs.declared.Word.TheVariants.{Nil, Rep, Jam}
@@ -158,7 +158,7 @@ pub record Scene : Type 0 where
   pub last : Activity
   pub wanted : Effect
 
-abbrev pub scene : List Input → Activity → Word → ℕ → ℕ → ℕ → Bool → Bool → Scene
+abbrev pub scene : List Input → Activity → Word → ℕ → ℕ → Option ℕ → Bool → Bool → Scene
 scene inputs last word out colliding single collision transmitted = record {
   inputs = inputs;
   last = last;
@@ -177,19 +177,19 @@ aui_parted = passing ++ (active 0b100000011 2000 1025 ∷ [])
 -- partitioned: its signal beside TP2 leaves the word, and alone it collides; AUI disabled: nothing
 abbrev pub scenes : List Scene
 scenes =
-    scene passing (activity_of 0b000000001 false false 2000 0) Rep 0b100000110 0b000000000 0 false false
-    ∷ scene passing (activity_of 0b000001000 false false 2000 0) Nil 0b000000000 0b000000000 nobody false false
-    ∷ scene passing (activity_of 0b000000011 false false 2000 300) Jam 0b100000111 0b000000011 nobody true true
-    ∷ scene passing (activity_of 0b000001011 false false 2000 300) Jam 0b100000111 0b000000011 nobody true true
-    ∷ scene passing (activity_of 0b000000001 true false 2000 0) Jam 0b100000110 0b000000000 0 false false
-    ∷ scene passing (activity_of 0b100000000 false false 2000 0) Rep 0b000000111 0b000000000 aui false false
-    ∷ scene passing (activity_of 0b100000000 false true 2000 300) Jam 0b000000111 0b100000000 aui true false
-    ∷ scene passing (activity_of 0b000000000 false true 2000 300) Jam 0b000000111 0b100000000 aui true false
-    ∷ scene parted (activity_of 0b000000011 false false 2000 300) Nil 0b000000000 0b000000000 nobody false false
-    ∷ scene parted (activity_of 0b000000101 false false 2000 300) Rep 0b100000011 0b000000001 2 false false
-    ∷ scene aui_parted (activity_of 0b000000100 false true 2000 300) Rep 0b100000011 0b100000000 2 false false
-    ∷ scene aui_parted (activity_of 0b000000000 false true 2000 300) Nil 0b000000000 0b100000000 nobody false false
-    ∷ scene (passing ++ (setting DisableAui ∷ [])) (activity_of 0b000000000 false true 2000 300) Nil 0b000000000 0b000000000 nobody false false
+    scene passing (activity_of 0b000000001 false false 2000 0) Rep 0b100000110 0b000000000 (Some 0) false false
+    ∷ scene passing (activity_of 0b000001000 false false 2000 0) Nil 0b000000000 0b000000000 None false false
+    ∷ scene passing (activity_of 0b000000011 false false 2000 300) Jam 0b100000111 0b000000011 None true true
+    ∷ scene passing (activity_of 0b000001011 false false 2000 300) Jam 0b100000111 0b000000011 None true true
+    ∷ scene passing (activity_of 0b000000001 true false 2000 0) Jam 0b100000110 0b000000000 (Some 0) false false
+    ∷ scene passing (activity_of 0b100000000 false false 2000 0) Rep 0b000000111 0b000000000 (Some aui) false false
+    ∷ scene passing (activity_of 0b100000000 false true 2000 300) Jam 0b000000111 0b100000000 (Some aui) true false
+    ∷ scene passing (activity_of 0b000000000 false true 2000 300) Jam 0b000000111 0b100000000 (Some aui) true false
+    ∷ scene parted (activity_of 0b000000011 false false 2000 300) Nil 0b000000000 0b000000000 None false false
+    ∷ scene parted (activity_of 0b000000101 false false 2000 300) Rep 0b100000011 0b000000001 (Some 2) false false
+    ∷ scene aui_parted (activity_of 0b000000100 false true 2000 300) Rep 0b100000011 0b100000000 (Some 2) false false
+    ∷ scene aui_parted (activity_of 0b000000000 false true 2000 300) Nil 0b000000000 0b100000000 None false false
+    ∷ scene (passing ++ (setting DisableAui ∷ [])) (activity_of 0b000000000 false true 2000 300) Nil 0b000000000 0b000000000 None false false
     ∷ []
 
 pub record Order : Type 0 where

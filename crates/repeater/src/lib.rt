@@ -2,15 +2,14 @@
 // to it, and what may be asked of it. It knows nothing of the HIMIB, which stands above it on these contracts.
 #![tactic(auto)]
 
-ghost use Rattle.std.specs.Prelude.{◌*◌, ◌%◌, ◌≤◌, ◌≡◌, cond, ◌&&◌, eqb, ltb};
+ghost use Rattle.std.specs.Prelude.{◌≡◌, cond, eqb};
 ghost use Rattle.ports.specs.Sets.{aui, has, set_of};
-ghost use Rattle.port.specs.Link.{ticked_at, pulsed_at};
 ghost use Rattle.burst.specs.Clean.{lasting_at};
-ghost use Rattle.store.specs.Door.{port_in, each_in};
-ghost use Rattle.repeater.specs.Door.{port_at, put_at, each_port};
+ghost use Rattle.store.specs.Door.{each_in};
 ghost use Rattle.repeater.specs.Reset.{power_up};
-ghost use Rattle.repeater.specs.Hearing.{transmits, listens, hearing_of};
-ghost use Rattle.repeater.specs.Answers.{bit, aui_byte, answer_of};
+ghost use Rattle.repeater.specs.Hearing.{hearing_of};
+ghost use Rattle.repeater.specs.Answers.{aui_byte, answer_of};
+ghost use Rattle.repeater.specs.Those.{Transmitting, Listening};
 ghost use Rattle.repeater.specs.Repeater.{quieted, port_after, followed, burst_of, changed_at, changed_tp, set_to, got_of};
 ghost use Rattle.repeater.specs.Repeater.{those_of, partitioned_of, linked_of, enabled_of};
 
@@ -44,37 +43,6 @@ pub struct Got {
     pub value: u8,
 }
 
-// Which ports a mask is asked of.
-#[derive(Clone, Copy)]
-pub enum Those {
-    Transmitting,
-    Listening,
-    Partitioned,
-    Linked,
-    Enabled,
-}
-
-// T.
-fn transmitting(ports: Ports) -> u16
-    ensures { result ≡ set_of (λ i. transmits i (port_in ports i)) }
-{
-    ports.enabled() & (ports.passing() | ports::only(ports::AUI))
-}
-
-// L.
-fn listening(ports: Ports) -> u16
-    ensures { result ≡ set_of (λ i. listens i (port_in ports i)) }
-{
-    ports::less(transmitting(ports), ports.partitioned())
-}
-
-// The TP ports whose link passes.
-fn linked(ports: Ports) -> u16
-    ensures { result ≡ set_of (λ i. ltb i aui && (port_in ports i).link_pass) }
-{
-    ports.passing() & ports::TP
-}
-
 // Of two sets, by AUI's algorithm and by the TP ports', the place of AUI from the one and all others from the other.
 fn algorithms(for_aui: u16, for_tp: u16) -> u16
     ensures { result ≡ set_of (λ i. cond (eqb i aui) (has for_aui i) (has for_tp i)) }
@@ -83,111 +51,46 @@ fn algorithms(for_aui: u16, for_tp: u16) -> u16
     (for_aui & aui) | ports::less(for_tp, aui)
 }
 
-// All ports after a burst: their partition steps, by sets that were taken before it, and then the links of those that were active.
-fn ports_after(
-    ports: Ports,
-    for_aui: bool,
-    for_tp: bool,
-    hearing: Hearing,
-    effect: Effect,
-    activity: Activity,
-) -> Ports
-    ensures { result ≡ each_in (port_after for_aui for_tp hearing effect activity (set_of (lasting_at hearing effect activity))) ports }
-{
-    let lasting = effect.lasting(hearing, activity);
-    let back_aui = effect.reconnecting(lasting, for_aui);
-    let back_tp = effect.reconnecting(lasting, for_tp);
-    let back = algorithms(back_aui, back_tp);
-    let met = ports.meet(Meetings {
-        t: hearing.t,
-        collided: effect.collided,
-        clean: lasting,
-        back: back,
-        x: activity.x,
-    });
-    met.revive(activity.mask)
-}
-
 impl Repeater {
     // The version that the Get for it reports.
     pub const VERSION: u8 = 1;
 
     // The repeater at power-up. A reset leaves the same.
-    pub fn power_up() -> Repeater
+    pub fn power_up() -> Self
         ensures { result ≡ power_up }
     {
-        let tp = Port::tp_power_up();
-        let aui = Port::aui_power_up();
-        let status = Status::power_up();
-        let ports = Ports::alike(tp, aui);
-        Repeater {
-            ports: ports,
+        Self {
+            ports: Ports::alike(Port::tp_power_up(), Port::aui_power_up()),
             alternate_aui: false,
             alternate_tp: false,
-            status: status,
+            status: Status::power_up(),
         }
     }
 
-    // The port at place i; past the last, one with nothing set.
-    fn port_at(self, i: usize) -> Port
-        ensures { result ≡ port_at self i }
-    {
-        let ports = self.ports;
-        ports.find(i)
-    }
-
-    // With another port at place i; past the last, as it was.
-    fn put_at(mut self, i: usize, p: Port) -> Repeater
-        ensures { result ≡ put_at i p self }
-    {
-        let ports = self.ports;
-        let next = ports.put(i, p);
-        self.ports = next;
-        self
-    }
-
-    // The mask of those ports.
-    fn those(self, those: Those) -> u16
-        ensures { result ≡ those_of those self }
-    {
-        let ports = self.ports;
-        match those {
-            Those::Transmitting => transmitting(ports),
-            Those::Listening => listening(ports),
-            Those::Partitioned => ports.partitioned(),
-            Those::Linked => linked(ports),
-            Those::Enabled => ports.enabled(),
-        }
-    }
-
-    // After a tick of 1 ms.
-    fn tick(mut self) -> Repeater
-        ensures { result ≡ each_port ticked_at self }
-    {
-        let ports = self.ports;
-        let next = ports.tick();
-        self.ports = next;
-        self
-    }
-
-    // After link pulses at the mask's TP ports.
-    fn pulse(mut self, mask: u16) -> Repeater
-        ensures { result ≡ each_port (pulsed_at mask) self }
-    {
-        let ports = self.ports;
-        let next = ports.pulse(mask);
-        self.ports = next;
-        self
-    }
-
-    // After what happens between bursts.
-    pub fn quiet(self, quiet: Quiet) -> Repeater
+    // After what happens between bursts: link pulses at the mask's TP ports, or a tick of 1 ms.
+    #[tactic(auto, unfolding(crate::specs::Repeater::quieted, crate::specs::Door::each_port))]
+    pub fn quiet(mut self, quiet: Quiet) -> Self
         ensures { result ≡ quieted quiet self }
     {
-        match quiet {
-            Quiet::Pulse(mask) => self.pulse(mask),
-            Quiet::Tick => self.tick(),
-        }
+        self.ports = match quiet {
+            Quiet::Pulse(mask) => self.ports.pulse(mask),
+            Quiet::Tick => self.ports.tick(),
+        };
+        self
+    }
+
+    // T.
+    fn transmitting(self) -> u16
+        ensures { result ≡ those_of Transmitting self }
+    {
+        self.ports.enabled() & (self.ports.passing() | ports::only(ports::AUI))
+    }
+
+    // L.
+    fn listening(self) -> u16
+        ensures { result ≡ those_of Listening self }
+    {
+        ports::less(self.transmitting(), self.partitioned())
     }
 
     // The first half of a burst: what is heard of it.
@@ -195,47 +98,55 @@ impl Repeater {
         ensures { result ≡ hearing_of self activity }
     {
         let e = activity.active();
-        let t = self.those(Those::Transmitting);
-        let l = self.those(Those::Listening);
-        let h = e & l;
-        let heard = burst::count_heard(h);
+        let h = e & self.listening();
         Hearing {
-            e: e,
-            t: t,
-            h: h,
-            heard: heard,
+            e,
+            t: self.transmitting(),
+            h,
+            heard: burst::count_heard(h),
         }
     }
 
+    // All ports after a burst: their partition steps, by sets that were taken before it, and then the links of those that were active.
+    fn ports_after(self, hearing: Hearing, effect: Effect, activity: Activity) -> Ports
+        ensures { result ≡ each_in (port_after self.alternate_aui self.alternate_tp hearing effect activity (set_of (lasting_at hearing effect activity))) self.ports }
+    {
+        let lasting = effect.lasting(hearing, activity);
+        let back_aui = effect.reconnecting(lasting, self.alternate_aui);
+        let back_tp = effect.reconnecting(lasting, self.alternate_tp);
+        let back = algorithms(back_aui, back_tp);
+        let met = self.ports.meet(Meetings {
+            t: hearing.t,
+            collided: effect.collided,
+            clean: lasting,
+            back,
+            x: activity.x,
+        });
+        met.revive(activity.mask)
+    }
+
     // The second half of a burst: what follows from a hearing, wherever it comes from.
+    #[tactic(auto, unfolding(crate::specs::Repeater::followed, crate::specs::Door::each_port))]
     fn follow(self, bus: Bus, hearing: Hearing, activity: Activity) -> Bursted
         ensures { result ≡ followed self bus hearing activity }
     {
         let effect = activity.effect(bus, hearing);
         let marks = activity.marks(effect);
-        let ports = self.ports;
-        let status = self.status;
-        let next = ports_after(
-            ports,
-            self.alternate_aui,
-            self.alternate_tp,
+        let repeater = Self {
+            ports: self.ports_after(hearing, effect, activity),
+            status: self.status.mark(marks),
+            ..self
+        };
+        Bursted {
+            repeater,
             hearing,
             effect,
-            activity,
-        );
-        let marked = status.mark(marks);
-        let mut repeater = self;
-        repeater.ports = next;
-        repeater.status = marked;
-        Bursted {
-            repeater: repeater,
-            hearing: hearing,
-            effect: effect,
-            marks: marks,
+            marks,
         }
     }
 
     // After a burst.
+    #[tactic(auto, unfolding(crate::specs::Repeater::burst_of))]
     pub fn burst(self, activity: Activity) -> Bursted
         ensures { result ≡ burst_of self activity }
     {
@@ -244,38 +155,41 @@ impl Repeater {
     }
 
     // After a change of the port at place i.
-    fn change_at(self, how: Change, i: usize) -> Repeater
+    #[tactic(auto, unfolding(crate::specs::Repeater::changed_at, crate::specs::Door::put_at, crate::specs::Door::port_at))]
+    fn change_at(mut self, how: Change, i: usize) -> Self
         ensures { result ≡ changed_at how i self }
     {
-        let p = self.port_at(i);
-        let q = p.change(how);
-        self.put_at(i, q)
-    }
-
-    // After a change of a TP port.
-    fn change_tp(self, how: Change, i: u8) -> Repeater
-        ensures { result ≡ changed_tp how i self }
-    {
-        let at = index(i);
-        if at < ports::AUI {
-            return self.change_at(how, at);
-        }
+        self.ports = self.ports.put(i, self.ports.find(i).change(how));
         self
     }
 
+    // After a change of a TP port.
+    #[tactic(auto, unfolding(crate::specs::Repeater::changed_tp))]
+    fn change_tp(self, how: Change, i: u8) -> Self
+        ensures { result ≡ changed_tp how i self }
+    {
+        let i = usize::from(i);
+        if i < ports::AUI {
+            self.change_at(how, i)
+        } else {
+            self
+        }
+    }
+
     // After a Set.
-    pub fn set(mut self, setting: Setting) -> Repeater
+    #[tactic(auto, unfolding(crate::specs::Repeater::set_to))]
+    pub fn set(self, setting: Setting) -> Self
         ensures { result ≡ set_to setting self }
     {
         match setting {
-            Setting::AlternateAui => {
-                self.alternate_aui = true;
-                self
-            }
-            Setting::AlternateTp => {
-                self.alternate_tp = true;
-                self
-            }
+            Setting::AlternateAui => Self {
+                alternate_aui: true,
+                ..self
+            },
+            Setting::AlternateTp => Self {
+                alternate_tp: true,
+                ..self
+            },
             Setting::DisableAui => self.change_at(Change::Disabling, ports::AUI),
             Setting::EnableAui => self.change_at(Change::EnablingAui, ports::AUI),
             Setting::DisableTp(i) => self.change_tp(Change::Disabling, i),
@@ -286,88 +200,66 @@ impl Repeater {
     }
 
     // PBSL0000.
+    #[tactic(auto, unfolding(crate::specs::Door::port_at))]
     fn aui_byte(self) -> u8
         ensures { result ≡ aui_byte self }
     {
-        let p = self.port_at(ports::AUI);
-        let status = self.status;
-        weight(!p.partitioned, 128)
-            + weight(status.rate, 64)
-            + weight(status.sqe, 32)
-            + weight(status.loopback, 16)
+        let connected = !self.ports.find(ports::AUI).partitioned;
+        128 * u8::from(connected)
+            + 64 * u8::from(self.status.rate)
+            + 32 * u8::from(self.status.sqe)
+            + 16 * u8::from(self.status.loopback)
     }
 
     // The byte that a Get gives.
+    #[tactic(auto, unfolding(crate::specs::Answers::answer_of))]
     fn answer(self, query: Query) -> u8
         ensures { result ≡ answer_of query self }
     {
-        let status = self.status;
         match query {
-            Query::Aui => self.aui_byte(),
-            Query::AuiClearB => self.aui_byte(),
-            Query::AuiClearSl => self.aui_byte(),
-            Query::AuiClearBsl => self.aui_byte(),
-            Query::Partition => 255 - low_byte(self.partitioned()),
-            Query::Rates => status.rates,
-            Query::Link => low_byte(self.linked()),
-            Query::Mjlp => weight(status.mjlp, 128),
-            Query::Version => Repeater::VERSION,
+            Query::Aui | Query::AuiClearB | Query::AuiClearSl | Query::AuiClearBsl =>
+                self.aui_byte(),
+            Query::Partition => 255 - (self.partitioned() % 256) as u8,
+            Query::Rates => self.status.rates,
+            Query::Link => (self.linked() % 256) as u8,
+            Query::Mjlp => 128 * u8::from(self.status.mjlp),
+            Query::Version => Self::VERSION,
         }
     }
 
     // After a Get, with its answer.
+    #[tactic(auto, unfolding(crate::specs::Repeater::got_of))]
     pub fn get(self, query: Query) -> Got
         ensures { result ≡ got_of query self }
     {
         let value = self.answer(query);
-        let status = self.status;
-        let cleared = status.clear(query);
-        let mut repeater = self;
-        repeater.status = cleared;
-        Got {
-            repeater: repeater,
-            value: value,
-        }
+        let repeater = Self {
+            status: self.status.clear(query),
+            ..self
+        };
+        Got { repeater, value }
     }
 
     // The partitioned ports.
+    #[tactic(auto, unfolding(crate::specs::Repeater::those_of, crate::specs::Repeater::among, crate::specs::Door::port_at))]
     pub fn partitioned(self) -> u16
         ensures { result ≡ partitioned_of self }
     {
-        self.those(Those::Partitioned)
+        self.ports.partitioned()
     }
 
     // The TP ports whose link passes.
     pub fn linked(self) -> u16
         ensures { result ≡ linked_of self }
     {
-        self.those(Those::Linked)
+        self.ports.passing() & ports::TP
     }
 
     // The enabled ports.
+    #[tactic(auto, unfolding(crate::specs::Repeater::those_of, crate::specs::Repeater::among, crate::specs::Door::port_at))]
     pub fn enabled(self) -> u16
         ensures { result ≡ enabled_of self }
     {
-        self.those(Those::Enabled)
+        self.ports.enabled()
     }
-}
-
-fn index(i: u8) -> usize
-    ensures { result ≡ i }
-{
-    i as usize
-}
-
-// A bit at its weight in a byte.
-fn weight(b: bool, at: u8) -> u8
-    ensures { (result ≡ at * bit b) × (result ≤ at) }
-{
-    if b { at } else { 0 }
-}
-
-// The TP ports of a mask as a byte.
-fn low_byte(mask: u16) -> u8
-    ensures { result ≡ mask % 256 }
-{
-    (mask % 256) as u8
 }

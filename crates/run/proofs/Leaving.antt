@@ -1,14 +1,17 @@
 -- What `answer_block` and the moving of the bytes that are left come to together. Assumes nothing.
 --   three_left   == a tick and three bytes more, computed
+--   moved_front  == these bytes, moved to the front of the buffer
 --   behind_at    == the bytes of the input behind the place at
 --   nothing_lost == the whole records are answered, and the bytes behind them stand at the front
+--   whole_buffer == the program's buffers are as long as Kept says
 use Prim.Native.Nat.{ℕ, ◌+◌, ◌-◌, ◌≤◌, ◌<◌}
 use mathlib.Core.Path.{◌≡◌, refl, sym, ap, ◌∙◌}
 use mathlib.Core.List.{List, [], ◌∷◌, ◌++◌}
 use native.Mathlib.Omega.{arith}
 use lib.Dec.{lit<}
-use lib.ListN.{length, take, drop, replicate}
-use lib.Seq.{length-take-le, take-add, drop_at}
+use lib.ListN.{length, take, drop, replicate, length-drop}
+use lib.Seq.{length-take-le, take-add, drop_at, take-paste}
+use Rattle.std.specs.List.{copy_within}
 use Rattle.record.specs.Record.{record_length}
 use Rattle.answer.specs.Text.{ascii}
 use Rattle.answer.specs.Numerals.{numeral, decimal}
@@ -19,9 +22,10 @@ use Rattle.attributes.specs.Flat.{flat_size, spots_size}
 use Rattle.himib.specs.Runs.{happening, start, all_at}
 use Rattle.himib.proofs.Computing.{computing}
 use Rattle.block.specs.Block.{Work, Answered, after_record, worked, block_of}
-use Rattle.run.specs.declared.State.{State}
+use Rattle.opening.specs.declared.State.{State}
 use Rattle.run.specs.declared.Done.{Done}
-use Rattle.run.specs.Kept.{standing, work_of, Kept}
+use Rattle.run.specs.declared.TheConstants.{BUFFER}
+use Rattle.run.specs.Kept.{buffer_length, standing, work_of, Kept}
 
 -- A TICK AND THREE BYTES
 
@@ -52,6 +56,11 @@ three_left = record { is = refl; kept = refl; low = lit< tt; fits = omega arith 
 
 -- IN GENERAL
 
+pub moved_front : (buf : List ℕ) (at total : ℕ) → at ≤ total → total ≤ length buf → take (total - at) (copy_within buf at total 0) ≡ take (total - at) (drop at buf)
+moved_front buf at total l u =
+    let n : total - at ≡ 0 + (total - at) = omega arith in
+    ap (λ (k : ℕ). take k (copy_within buf at total 0)) n ∙ take-paste buf 0 (drop at buf) (total - at) (omega arith) (omega (arith, length-drop at buf))
+
 behind_at : (buf : List ℕ) (at total : ℕ) → at ≤ total → total ≤ length buf → drop at (take total buf) ≡ take (total - at) (drop at buf)
 behind_at buf at total l u =
     let k : total ≡ at + (total - at) = omega arith in
@@ -77,3 +86,6 @@ module _ (s : State) (buf out after new : List ℕ) (total at : ℕ) (d : Done) 
         low = rw f (rw n at low);
         fits = a.fits;
       }
+
+pub whole_buffer : BUFFER ≡ buffer_length
+whole_buffer = refl

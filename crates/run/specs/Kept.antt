@@ -11,7 +11,7 @@ use Rattle.record.specs.Record.{record_length}
 use Rattle.chip.specs.Flat.{chip_of}
 use Rattle.himib.specs.Runs.{Point}
 use Rattle.block.specs.Block.{Work, block_of}
-use Rattle.run.specs.declared.State.{State}
+use Rattle.opening.specs.declared.State.{State}
 use Rattle.run.specs.declared.Done.{Done}
 
 abbrev pub buffer_length : ℕ

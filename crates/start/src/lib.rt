@@ -14,7 +14,8 @@ use attributes::{Attributes, Flat};
 use chip::{Chip, Choices, FlatChip, FlatSupply, Kept};
 
 // Whether the file fits, the short event limit that it asks for, the number that power-up answers, 0 or 13, and a chip. Nobody runs it beside a 13; where the file
-// does not fit it is the chip of a run without one. What the rules speak of,
+// does not fit it is the chip of a run without one. It is no Result: `refused` and `beside` of pass/specs/Limit speak of the limit, the number and the chip of a refusal.
+// What the rules speak of,
 #[derive(Clone, Copy)]
 pub struct Started {
     pub fits: bool,
@@ -54,7 +55,7 @@ impl Started {
     pub const CHOSEN: usize = Started::SPARE + 1;
 }
 
-// The number in the four bytes from byte i on.
+// The number in the four bytes from byte i on. Not in `spelling`: there it would have to answer where four bytes are not there.
 fn number_from(s: &[u8], i: usize) -> u32
     requires { i + 4 ≤ length s.now }
     ensures { result ≡ number_from s.now i }
@@ -66,7 +67,8 @@ fn counters_from(s: &[u8], i: usize) -> [u32; 13]
     requires { i + counters_size ≤ length s.now }
     ensures { result ≡ counters_from s.now i }
 {
-    let mut out = [0u32; 13];
+    // tried: `array::from_fn`, whose contract does not say what the closure holds at each call; the proof does not close
+    let mut out = [0; Attributes::COUNT];
     for r in 0..Attributes::COUNT {
         out[r] = number_from(s, i + 4 * r);
     }
@@ -77,23 +79,20 @@ fn address_from(s: &[u8], i: usize) -> [u8; 6]
     requires { i + 6 ≤ length s.now }
     ensures { result ≡ address_from s.now i }
 {
-    let mut out = [0u8; 6];
-    for j in 0..6 {
-        out[j] = s[i + j];
-    }
+    let mut out = [0; 6];
+    out.copy_from_slice(&s[i..i + 6]);
     out
 }
 
 // One port's.
+#[tactic(auto, unfolding(crate::specs::Start::port_from))]
 fn port_from(s: &[u8], i: usize) -> Attributes
     requires { i + port_size ≤ length s.now }
     ensures { result ≡ port_from s.now i }
 {
-    let counters = counters_from(s, i);
-    let address = address_from(s, i + Started::COUNTERS);
     Attributes {
-        counters: counters,
-        address: address,
+        counters: counters_from(s, i),
+        address: address_from(s, i + Started::COUNTERS),
     }
 }
 
@@ -103,53 +102,47 @@ fn nine_in(s: &[u8]) -> Flat
     ensures { nine_in result ≡ nine_up_to s.now port_count }
 {
     let mut flat = Flat::zero();
+    // `with_port` is asked by the port's number; nothing is walked here.
     for i in 0..ports::COUNT {
-        let port = port_from(s, Started::PORT * i);
-        let next = flat.with_port(i, port);
-        flat = next;
+        flat = flat.with_port(i, port_from(s, Started::PORT * i));
     }
     flat
 }
 
 // Whether the file has one of the two sizes, and is 0 where it has to be.
+#[tactic(auto, unfolding(crate::specs::Start::fits_in))]
 fn fits_in(s: &[u8]) -> bool
     ensures { result ≡ fits_in s.now }
 {
-    if s.len() == Started::SIZE {
-        return true;
-    }
-    if s.len() == Started::CHOSEN {
-        return s[Started::SPARE] == 0;
-    }
-    false
+    s.len() == Started::SIZE || s.len() == Started::CHOSEN && s[Started::SPARE] == 0
 }
 
 // What a start file chooses, or what is usual.
+#[tactic(auto, unfolding(crate::specs::Start::choices_in))]
 fn choices_in(s: &[u8]) -> Choices
     ensures { result ≡ choices_in s.now }
 {
     if s.len() == Started::CHOSEN {
-        let limit = number_from(s, Started::LIMIT_FROM);
-        return Choices { short_limit: limit };
+        Choices {
+            short_limit: number_from(s, Started::LIMIT_FROM),
+        }
+    } else {
+        Choices::usual()
     }
-    Choices::usual()
 }
 
 // What a start file gives at power-up.
+#[tactic(auto, unfolding(crate::specs::Start::supply_in))]
 fn supply_in(s: &[u8]) -> FlatSupply
     requires { start_size ≤ length s.now }
     ensures { supply_of result ≡ supply_in s.now }
 {
-    let flat = nine_in(s);
-    let collisions = number_from(s, Started::COLLISIONS_FROM);
-    let octets = number_from(s, Started::OCTETS_FROM);
-    let choices = choices_in(s);
     FlatSupply {
-        flat: flat,
+        flat: nine_in(s),
         kept: Kept {
-            transmit_collisions: collisions,
-            total_octets: octets,
-            choices: choices,
+            transmit_collisions: number_from(s, Started::COLLISIONS_FROM),
+            total_octets: number_from(s, Started::OCTETS_FROM),
+            choices: choices_in(s),
         },
     }
 }
@@ -158,31 +151,27 @@ fn supply_in(s: &[u8]) -> FlatSupply
 fn nothing() -> FlatSupply
     ensures { supply_of result ≡ nothing_given }
 {
-    let flat = Flat::zero();
-    let choices = Choices::usual();
     FlatSupply {
-        flat: flat,
+        flat: Flat::zero(),
         kept: Kept {
             transmit_collisions: 0,
             total_octets: 0,
-            choices: choices,
+            choices: Choices::usual(),
         },
     }
 }
 
 // What power-up makes of it.
+#[tactic(auto, unfolding(crate::specs::Start::started_with))]
 fn open_with(fits: bool, given: FlatSupply) -> Opened
     ensures { started_by result ≡ started_with fits (supply_of given) }
 {
-    let kept = given.kept;
-    let choices = kept.choices;
     let powered = FlatChip::power_up(given);
-    let chip = powered.chip;
     Opened {
-        fits: fits,
-        limit: choices.short_limit,
+        fits,
+        limit: given.kept.choices.short_limit,
         number: powered.number,
-        chip: chip,
+        chip: powered.chip,
     }
 }
 
@@ -191,9 +180,8 @@ pub fn start_chip(s: &[u8]) -> Opened
     ensures { started_by result ≡ started_of s.now }
 {
     if fits_in(s) {
-        let given = supply_in(s);
-        return open_with(true, given);
+        open_with(true, supply_in(s))
+    } else {
+        open_with(false, nothing())
     }
-    let given = nothing();
-    open_with(false, given)
 }

@@ -3,5 +3,4 @@ pub mod Sheet
 pub mod Masks
 pub mod DoorLaws
 pub mod Visiting
-pub mod RowLaws
 pub mod VisitLaws

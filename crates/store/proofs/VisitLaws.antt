@@ -3,12 +3,12 @@
 --   set_in                  == the set of a mask's ports
 --   found_made, none_made, put_made, put_none == a port that is found, and one that is put, as the code makes it
 --   tick_made, pulse_made, revive_made, meet_made == the ports after a tick, link pulses, activity, a burst
-use Prim.Native.Nat.{ℕ, ◌+◌, ◌-◌, ◌<◌}
+use Prim.Native.Nat.{ℕ, ◌+◌, ◌-◌, ◌≤◌, ◌<◌}
 use mathlib.Core.Path.{◌≡◌, refl, ap, sym, ◌∙◌}
 use mathlib.Core.Bool.{Bool, true, false, cond, not, ◌&&◌, ◌||◌, or-true, or-false}
 use mathlib.Core.List.{List}
 use native.Mathlib.Omega.{arith}
-use borrow.Author.Tests.{eqb-true, eqb-false, ltb-true, ltb-false, lt-ltb, le-leb}
+use borrow.Author.Tests.{eqb-true, eqb-false, ltb-true, ltb-false, lt-ltb, le-leb, lt-leb, leb-true, leb-false}
 use lib.Dec.{eqb, ltb, leb}
 use lib.Bits.{bit_and, bit_or, and_le_l, and_le_r, or_lt}
 use lib.ListN.{length, get_or, set, length-set}
@@ -16,7 +16,7 @@ use lib.Seq.{get_or-set_same, get_or-set_other}
 use Rattle.history.specs.History.{partitions_at, long_above}
 use Rattle.ports.specs.Sets.{has, set_of, without}
 use Rattle.ports.specs.Each.{each}
-use Rattle.ports.proofs.Sets.{has_and, has_or, has_past, gather_lt, gather_same, is_gather}
+use Rattle.ports.proofs.Sets.{has_and, has_or, has_past, gather_lt, is_gather}
 use Rattle.ports.proofs.Each.{each_length}
 use Rattle.port.specs.declared.Port.{Port}
 use Rattle.port.specs.declared.Meeting.{Meeting}
@@ -26,14 +26,11 @@ use Rattle.port.specs.Partition.{partitioning, after_meeting}
 use Rattle.store.specs.declared.Row.{Row}
 use Rattle.store.specs.declared.Ports.{Ports}
 use Rattle.store.specs.declared.Meetings.{Meetings}
-use Rattle.store.specs.declared.Visit.{Visit}
-use Rattle.store.specs.declared.Visit.TheVariants.{Tick, Hush, Pulse, Revive, Collide, Calm}
 use Rattle.store.specs.Door.{no_row, row_of, port_of, port_in, put_in, each_in, met_in}
-use Rattle.store.specs.Visits.{on_set, with_count_row, is_full, visited}
+use Rattle.store.specs.Visits.{on_set, Visit, Tick, Hush, Pulse, Revive, Collide, Calm, with_count_row, is_full, visited}
 use Rattle.store.proofs.Sheet.{moves_made}
 use Rattle.store.proofs.Masks.{has_first, has_less, has_set, has_with, has_without_one}
 use Rattle.store.proofs.Visiting.{holding, visited_at}
-use Rattle.store.proofs.RowLaws.{one_less}
 use Rattle.store.proofs.DoorLaws.{standing, split, places_rows, port_within, port_past, is_put, put_past, is_each}
 
 -- A VISIT
@@ -44,9 +41,10 @@ pub record Went (mask : ℕ) (visit : Visit) (rows next : List Row) (full : ℕ)
   pub full_at : (i : ℕ) → has full i ≡ (has mask i && is_full visit (get_or rows i no_row))
   pub low : full < 65536
 
-pub went : (mask : ℕ) (visit : Visit) (rows next : List Row) (full : ℕ) → mask < 512 → length rows ≡ 9 → next ≡ each (on_set mask (visited visit)) rows
-    → full ≡ set_of (λ i. has mask i && is_full visit (get_or rows i no_row)) → Went mask visit rows next full
-went mask visit rows next full l n a b =
+pub went : (mask : ℕ) (visit : Visit) (rows next : List Row) (full : ℕ) → mask < 512 → length rows ≡ 9
+    → (next ≡ each (on_set mask (visited visit)) rows) × (full ≡ set_of (λ i. has mask i && is_full visit (get_or rows i no_row)))
+    → Went mask visit rows next full
+went mask visit rows next full l n (a, b) =
     record {
       long = rw a (each_length (on_set mask (visited visit)) rows);
       row = λ i. rw a (visited_at (visited visit) mask rows i no_row (λ h. within i h));
@@ -63,43 +61,22 @@ went mask visit rows next full l n a b =
 
 -- SETS AND SINGLE PORTS
 
-pub nine_made : (rows : List Row) (m : ℕ) → length rows ≡ 9 → bit_and m 511 ≡ set_of (λ i. ltb i (length rows) && has m i)
-nine_made rows m n =
-    is_gather 16 (bit_and m 511) (λ i. ltb i (length rows) && has m i) (omega (arith, and_le_r m 511)) (λ i l. rw n (has_first 9 m i))
-
-pub place_low : (b : Bool) (i n : ℕ) → b ≡ ltb i n → n ≡ 9 → b ≡ true → i < 9
-place_low b i n x e y = omega (arith, ltb-true i n (sym x ∙ y))
-
-module _ (s : Ports) where
-  pub standing_enabled : (i : ℕ) → (standing s i).enabled ≡ has s.enabled i
-  unfolding standing
-  standing_enabled i = refl
-
-  pub standing_passing : (i : ℕ) → (standing s i).link_pass ≡ has s.passing i
-  unfolding standing
-  standing_passing i = refl
-
-  pub standing_partitioned : (i : ℕ) → (standing s i).partitioned ≡ has s.partitioned i
-  unfolding standing
-  standing_partitioned i = refl
-
-  pub set_in : (m : ℕ) (q : Port → Bool) (r : ℕ) → q no_port ≡ false → ((i : ℕ) → q (standing s i) ≡ has m i)
-      → r ≡ set_of (λ i. ltb i (length s.rows) && has m i) → r ≡ set_of (λ i. q (port_in s i))
-  set_in m q r none h e =
-      e ∙ gather_same 16 (λ i. ltb i (length s.rows) && has m i) (λ i. q (port_in s i)) (λ i l. go i (ltb i (length s.rows)) refl)
+module _ (s : Ports) (nine : length s.rows ≡ 9) where
+  pub set_in : (m : ℕ) (q : Port → Bool) → q no_port ≡ false → ((i : ℕ) → q (standing s i) ≡ has m i) → bit_and m 511 ≡ set_of (λ i. q (port_in s i))
+  set_in m q none h =
+      is_gather 16 (bit_and m 511) (λ i. q (port_in s i)) (omega (arith, and_le_r m 511)) (λ i l. has_first 9 m i ∙ go i (ltb i 9) refl)
     where
-      go : (i : ℕ) (b : Bool) → ltb i (length s.rows) ≡ b → (b && has m i) ≡ q (port_in s i)
-      go i true k = sym (h i) ∙ ap q (sym (port_within s i (rw (places_rows s) (ltb-true i (length s.rows) k))))
-      go i false k = sym none ∙ ap q (sym (port_past s i (rw (places_rows s) (ltb-false i (length s.rows) k))))
+      go : (i : ℕ) (b : Bool) → ltb i 9 ≡ b → (b && has m i) ≡ q (port_in s i)
+      go i true k = sym (h i) ∙ ap q (sym (port_within s i (omega (arith, places_rows s, ltb-true i 9 k))))
+      go i false k = sym none ∙ ap q (sym (port_past s i (omega (arith, places_rows s, ltb-false i 9 k))))
 
-  pub found_made : (i : ℕ) (b e t p c : Bool) (row : Row) → b ≡ ltb i (length s.rows) → b ≡ true → row ≡ get_or s.rows i no_row
-      → e ≡ has s.enabled i → t ≡ has s.tested i → p ≡ has s.passing i → c ≡ has s.partitioned i → port_of e t p c row ≡ port_in s i
+  pub found_made : (i : ℕ) (e t p c : Bool) → i < 9 → e ≡ has s.enabled i → t ≡ has s.tested i → p ≡ has s.passing i → c ≡ has s.partitioned i
+      → port_of e t p c (get_or s.rows i no_row) ≡ port_in s i
   unfolding standing
-  found_made i b e t p c row x y z f g h k =
-      rw (z, f, g, h, k) (sym (port_within s i (rw (places_rows s) (ltb-true i (length s.rows) (sym x ∙ y)))))
+  found_made i e t p c l f g h k = rw (f, g, h, k) (sym (port_within s i (omega (arith, places_rows s))))
 
-  pub none_made : (i : ℕ) (b : Bool) → b ≡ ltb i (length s.rows) → b ≡ false → no_port ≡ port_in s i
-  none_made i b x y = sym (port_past s i (rw (places_rows s) (ltb-false i (length s.rows) (sym x ∙ y))))
+  pub none_made : (i : ℕ) → 9 ≤ i → no_port ≡ port_in s i
+  none_made i l = sym (port_past s i (omega (arith, places_rows s)))
 
   -- a mask with port i or without it
   abbrev bit_put : ℕ → Bool → ℕ → ℕ
@@ -116,32 +93,29 @@ module _ (s : Ports) where
       go true e = rw (eqb-true i k e) (get_or-set_same rows k x no_row h)
       go false e = get_or-set_other rows k i x no_row (eqb-false i k e)
 
-  pub put_made : (i : ℕ) (p : Port) (b : Bool) (rows : List Row) (e t q c : ℕ) → s.enabled < 65536 → s.tested < 65536 → s.passing < 65536
-      → s.partitioned < 65536 → b ≡ ltb i (length s.rows) → length s.rows ≡ 9 → b ≡ true → rows ≡ set s.rows i (row_of p)
+  pub put_made : (i : ℕ) (p : Port) (e t q c : ℕ) → s.enabled < 65536 → s.tested < 65536 → s.passing < 65536 → s.partitioned < 65536 → i < 9
       → e ≡ bit_put i p.enabled s.enabled → t ≡ bit_put i p.link_test s.tested → q ≡ bit_put i p.link_pass s.passing
       → c ≡ bit_put i p.partitioned s.partitioned
-      → ◌≡◌ {A = Ports} (record { enabled = e; tested = t; passing = q; partitioned = c; rows = rows }) (put_in i p s)
+      → ◌≡◌ {A = Ports} (record { enabled = e; tested = t; passing = q; partitioned = c; rows = set s.rows i (row_of p) }) (put_in i p s)
   unfolding standing
-  put_made i p b rows e t q c le lt lp lc x n y z f g h k =
-      let l : i < length s.rows = ltb-true i (length s.rows) (sym x ∙ y) in
-      let m : i < 16 = omega arith in
-      is_put i p s (record { enabled = e; tested = t; passing = q; partitioned = c; rows = rows }) l (rw z (length-set s.rows i (row_of p)))
+  put_made i p e t q c le lt lp lc m f g h k =
+      let l : i < length s.rows = omega arith in
+      is_put i p s (record { enabled = e; tested = t; passing = q; partitioned = c; rows = set s.rows i (row_of p) }) l (length-set s.rows i (row_of p))
       (λ j. rw (
         f,
         g,
         h,
         k,
-        z,
-        bit_put_lem i p.enabled s.enabled j m le,
-        bit_put_lem i p.link_test s.tested j m lt,
-        bit_put_lem i p.link_pass s.passing j m lp,
-        bit_put_lem i p.partitioned s.partitioned j m lc,
+        bit_put_lem i p.enabled s.enabled j (omega arith) le,
+        bit_put_lem i p.link_test s.tested j (omega arith) lt,
+        bit_put_lem i p.link_pass s.passing j (omega arith) lp,
+        bit_put_lem i p.partitioned s.partitioned j (omega arith) lc,
         row_put s.rows i (row_of p) j l,
       )
       (split (eqb j i) p (standing s j) (cond (eqb j i) (row_of p) (get_or s.rows j no_row)) refl))
 
-  pub put_none : (i : ℕ) (p : Port) (b : Bool) → b ≡ ltb i (length s.rows) → b ≡ false → s ≡ put_in i p s
-  put_none i p b x y = sym (put_past i p s (ltb-false i (length s.rows) (sym x ∙ y)))
+  pub put_none : (i : ℕ) (p : Port) → 9 ≤ i → s ≡ put_in i p s
+  put_none i p l = sym (put_past i p s (omega arith))
 
 -- TICKS, LINK PULSES, ACTIVITY
 
@@ -272,6 +246,14 @@ module _ (s : Ports) (low : s.passing < 65536) (nine : length s.rows ≡ 9) wher
         ∙ sym (tp_alone i (cond (has mask i) (pulsed (standing s i)) (standing s i)) (standing s i))))
 
 -- BURSTS
+
+-- one less than a limit is reached exactly if the limit is reached with one more
+one_less : (k n : ℕ) → leb k n ≡ leb (k + 1) (n + 1)
+one_less k n = go (leb k n) refl
+  where
+    go : (b : Bool) → leb k n ≡ b → b ≡ leb (k + 1) (n + 1)
+    go true e = sym (le-leb (k + 1) (n + 1) (omega (arith, leb-true k n e)))
+    go false e = sym (lt-leb (k + 1) (n + 1) (omega (arith, leb-false k n e)))
 
 -- a collision partitions at the last count before the limit, and a long one at any
 full_long : (n : ℕ) (g : Bool) → leb (cond g 0 (partitions_at - 1)) n ≡ (leb partitions_at (n + 1) || g)

@@ -3,10 +3,10 @@
 use mathlib.Core.Path.{◌≡◌, sym, ap, ap₂, ◌∙◌}
 use Rattle.chip.specs.declared.FlatChip.{FlatChip}
 use Rattle.chip.proofs.FlatLaws.{chip_one}
-use Rattle.tally.specs.Tally.{Tally, came_to, chip_in, OneTally}
+use Rattle.tally.specs.Tally.{Tally, came_to, OneTally}
 
 pub one_tally : OneTally
 one_tally p bs r s a b e d =
     let both : came_to r ≡ came_to s = e ∙ sym d in
-    let chips : chip_in r ≡ chip_in s = chip_one (chip_in r) (chip_in s) a b (ap (λ (w : Tally). w.point.chip) both) in
-    ap₂ (λ (c : FlatChip) (w : Tally). record { core = c.core; flat = c.flat; host = w.point.host; refused = w.refused }) chips both
+    let chips : r.chip ≡ s.chip = chip_one r.chip s.chip a b (ap (λ (w : Tally). w.point.chip) both) in
+    ap₂ (λ (c : FlatChip) (w : Tally). record { chip = c; host = w.point.host; refused = w.refused }) chips both

@@ -1,13 +1,13 @@
 -- A tally, record by record, as the loop of `take_all` goes. Assumes nothing.
 --   end_short, end_whole  == where a piece ends
---   cut_none, cut_next    == no bytes are no record; the first record of some, and the others
---   onward_none, onward_next, onward_begun == the same of what they come to
+--   piece_end, rest_end   == the bytes up to there are the next record, and those behind it the rest
+--   onward_none, onward_next, onward_begun == what some bytes come to: nothing; the first record and the others; from the start
 --   Stands p input ..     == where the loop stands: what is left of the input leads from here to what all of it comes to
 --   begins, turned, ends  == it begins; a record read and followed leads to where it stands next; it ends
-use Prim.Native.Nat.{ℕ, suc, ◌+◌, ◌-◌, ◌≤◌, ◌<◌}
+use Prim.Native.Nat.{ℕ, ◌+◌, ◌-◌, ◌≤◌, ◌<◌}
 use mathlib.Core.Path.{◌≡◌, refl, sym, ap, ◌∙◌}
 use mathlib.Core.Bool.{Bool, true, false, cond}
-use mathlib.Core.List.{List, [], ◌∷◌}
+use mathlib.Core.List.{List, []}
 use native.Mathlib.Omega.{arith}
 use borrow.Author.Tests.{ltb-true, ltb-false, lt-ltb, le-ltb}
 use lib.Dec.{ltb}
@@ -18,6 +18,7 @@ use Rattle.record.specs.Record.{record_length}
 use Rattle.record.specs.Refusals.{record_of}
 use Rattle.host.specs.declared.Host.{Host}
 use Rattle.answer.specs.declared.Answer.{Answer}
+use Rattle.attributes.specs.declared.Flat.{Flat}
 use Rattle.attributes.specs.Flat.{Fit}
 use Rattle.chip.specs.declared.Core.{Core}
 use Rattle.chip.specs.Flat.{holding}
@@ -27,7 +28,8 @@ use Rattle.himib.specs.Step.{taken, step_of}
 use Rattle.himib.specs.Flat.{followed_by, Follows}
 use Rattle.himib.specs.Runs.{Point, at, happening, history_of, run_of, history, run, answers_in, accepted}
 use Rattle.lent.specs.Lists.{pieces, cut_off, cut}
-use Rattle.tally.specs.Tally.{Tally, end_of, refusal, refused_in, tally_of, standing}
+use Rattle.lent.proofs.ListLaws.{cut_next}
+use Rattle.tally.specs.Tally.{Tally, end_of, refusal, refused_in, tally_of}
 use Rattle.tally.specs.Blocks.{begun, onward}
 use Rattle.tally.proofs.Sheet.{in_two_blocks}
 
@@ -89,16 +91,6 @@ module _ (bs : List ℕ) (from : ℕ) where
 
 -- ---- Records, and what they come to
 
-pub cut_none : cut [] ≡ []
-unfolding cut_off
-cut_none = refl
-
-pub cut_next : (bs : List ℕ) → 0 < length bs → cut bs ≡ take record_length bs ∷ cut (drop record_length bs)
-unfolding cut_off
-cut_next bs h =
-    let e : pieces (length bs) ≡ suc (pieces (length (drop record_length bs))) = rw (length-drop record_length bs) (omega arith) in
-    ap (λ (k : ℕ). cut_off k bs) e
-
 -- the tally w, with these records behind it
 abbrev with : Tally → List (List ℕ) → Tally
 with w rs = record { point = run w.point rs; refused = w.refused + refused_in (answers_in (history w.point rs)) }
@@ -144,36 +136,36 @@ refusal_low a = by (accepted a) where
 
 -- ---- The loop
 
-pub record Stands (p : Point) (input : List ℕ) (core : Core) (flat addresses : List ℕ) (h : Host) (refused from : ℕ) : Type 0 where
+pub record Stands (p : Point) (input : List ℕ) (core : Core) (flat : Flat) (h : Host) (refused from : ℕ) : Type 0 where
   pub inside : from ≤ length input
   pub few : refused ≤ from
-  pub fit : Fit flat addresses
-  pub leads : onward (record { point = standing core flat addresses h; refused = refused }) (drop from input) ≡ tally_of p input
+  pub fit : Fit flat
+  pub leads : onward (record { point = at (holding core flat) h; refused = refused }) (drop from input) ≡ tally_of p input
 
 module _ (p : Point) (input : List ℕ) where
-  pub begins : (core : Core) (flat addresses : List ℕ) (h : Host) → p ≡ standing core flat addresses h → Fit flat addresses
-      → Stands p input core flat addresses h 0 0
-  begins core flat addresses h e fit = record {
+  pub begins : (core : Core) (flat : Flat) (h : Host) → p ≡ at (holding core flat) h → Fit flat
+      → Stands p input core flat h 0 0
+  begins core flat h e fit = record {
     inside = omega arith;
     few = omega arith;
     fit = fit;
     leads = ap (λ (q : Point). onward (begun q) input) (sym e) ∙ onward_begun p input;
   }
 
-  module _ (core : Core) (flat addresses : List ℕ) (h : Host) (refused from : ℕ) (s : Stands p input core flat addresses h refused from) where
+  module _ (core : Core) (flat : Flat) (h : Host) (refused from : ℕ) (s : Stands p input core flat h refused from) where
     abbrev here : Tally
-    here = record { point = standing core flat addresses h; refused = refused }
+    here = record { point = at (holding core flat) h; refused = refused }
 
     pub turned : from < length input → (next : ℕ) → next ≡ end_of from (length input) → (r : Record) → r ≡ record_of (take (next - from) (drop from input))
-        → (t : Followed) (later last : List ℕ) → Follows core h r.asked r.source flat addresses t later last → (one : ℕ) → one ≡ refusal t.answer
-        → Stands p input t.core later last t.host (refused + one) next
+        → (t : Followed) (later : Flat) → Follows core h r.asked r.source flat t later → (one : ℕ) → one ≡ refusal t.answer
+        → Stands p input t.core later t.host (refused + one) next
     unfolding happening step_of
-    turned l next e r q t later last f one d =
+    turned l next e r q t later f one d =
         let bytes : List ℕ = take record_length (drop from input) in
         let rest : List ℕ = drop record_length (drop from input) in
         let read : r ≡ record_of bytes = q ∙ ap (λ (k : ℕ). record_of (take (k - from) (drop from input))) e ∙ ap record_of (piece_end input from) in
-        let is : followed_by t later last ≡ step_of (holding core flat addresses) h bytes =
-        f.is s.fit ∙ ap (λ (x : Record). taken x.asked x.source (holding core flat addresses) h) read in
+        let is : followed_by t later ≡ step_of (holding core flat) h bytes =
+        f.is s.fit ∙ ap (λ (x : Record). taken x.asked x.source (holding core flat) h) read in
         let low : one ≤ 1 = rw d (refusal_low t.answer) in
         let further : from < next = rw e (end_after from (length input) l) in
         let long : 0 < length (drop from input) = rw (length-drop from input) (omega (arith, l)) in
@@ -182,9 +174,9 @@ module _ (p : Point) (input : List ℕ) where
           few = omega (arith, s.few, low, further);
           fit = f.fine s.fit;
           leads =
-              ap (onward (record { point = standing t.core later last t.host; refused = refused + one }))
+              ap (onward (record { point = at (holding t.core later) t.host; refused = refused + one }))
               (ap (λ (k : ℕ). drop k input) e ∙ rest_end input from)
-              ∙ ap (λ (n : ℕ). onward (record { point = standing t.core later last t.host; refused = refused + n }) rest) d
+              ∙ ap (λ (n : ℕ). onward (record { point = at (holding t.core later) t.host; refused = refused + n }) rest) d
               ∙ ap (λ (z : Stepped). onward (record { point = at z.chip z.host; refused = refused + refusal z.answer }) rest) is
               ∙ sym (onward_next here (drop from input) long) ∙ s.leads;
         }

@@ -5,7 +5,7 @@
 --   refused_in said    == how many of the answers said turn a record away
 --   tallied p rs      == from the point p through the records rs
 --   tally_of p bs      == through all records of the bytes bs, a short last piece being one
---   standing ..       == a run stands at this core, these counters and addresses as they are kept, and this host's record
+--   standing ..       == a run stands at this chip as it is kept, and this host's record
 --   came_to t          == the tally that `take_all` returns
 --   OneTally          == two results that `take_all` may give for the same arguments are one; their arrays have as many places as their type says
 -- Assumes nothing.
@@ -13,9 +13,8 @@ use Rattle.std.specs.Prelude.{ℕ, ◌+◌, ◌-◌, ◌≡◌, cond, List, [], 
 use Rattle.record.specs.Record.{record_length}
 use Rattle.host.specs.declared.Host.{Host}
 use Rattle.answer.specs.declared.Answer.{Answer}
-use Rattle.chip.specs.declared.Core.{Core}
 use Rattle.chip.specs.declared.FlatChip.{FlatChip}
-use Rattle.chip.specs.Flat.{holding, Sized}
+use Rattle.chip.specs.Flat.{chip_of, Sized}
 use Rattle.himib.specs.Runs.{Point, at, history, run, answers_in, accepted}
 use Rattle.lent.specs.Lists.{cut}
 use Rattle.tally.specs.declared.Tallied.{Tallied}
@@ -40,16 +39,12 @@ tallied p rs = record { point = run p rs; refused = refused_in (answers_in (hist
 unfoldable pub tally_of : Point → List ℕ → Tally
 tally_of p bs = tallied p (cut bs)
 
-abbrev pub standing : Core → List ℕ → List ℕ → Host → Point
-standing core flat addresses host = at (holding core flat addresses) host
+abbrev pub standing : FlatChip → Host → Point
+standing chip host = at (chip_of chip) host
 
 abbrev pub came_to : Tallied → Tally
-came_to t = record { point = standing t.core t.flat.counters t.flat.addresses t.host; refused = t.refused }
-
--- the chip that is left, as it is kept
-abbrev pub chip_in : Tallied → FlatChip
-chip_in t = record { core = t.core; flat = t.flat }
+came_to t = record { point = standing t.chip t.host; refused = t.refused }
 
 abbrev pub OneTally : Type 0
 OneTally =
-    (p : Point) (bs : List ℕ) (r s : Tallied) → Sized (chip_in r) → Sized (chip_in s) → came_to r ≡ tally_of p bs → came_to s ≡ tally_of p bs → r ≡ s
+    (p : Point) (bs : List ℕ) (r s : Tallied) → Sized r.chip → Sized s.chip → came_to r ≡ tally_of p bs → came_to s ≡ tally_of p bs → r ≡ s

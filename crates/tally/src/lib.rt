@@ -2,84 +2,51 @@
 #![tactic(auto)]
 
 ghost use Rattle.std.specs.Prelude.{◌≤◌, ◌≡◌};
-ghost use Rattle.tally.specs.Tally.{end_of, refusal, came_to, standing, tally_of};
+ghost use Rattle.tally.specs.Tally.{refusal, came_to, standing, tally_of};
 
 use answer::Answer;
-use attributes::Flat;
-use chip::Core;
+use chip::FlatChip;
 use host::Host;
 use record::Record;
 
 // What the records leave: the chip and the host's record, and how many of them were turned away.
 #[derive(Clone, Copy)]
 pub struct Tallied {
-    pub core: Core,
-    pub flat: Flat,
+    pub chip: FlatChip,
     pub host: Host,
     pub refused: u64,
 }
 
-// Where the piece ends that begins at a place: a record further on, or at the end of the input.
-fn end_of(at: usize, length: usize) -> usize
-    requires { at ≤ length }
-    ensures { result ≡ end_of at length }
-{
-    if length - at < Record::LENGTH {
-        return length;
-    }
-    at + Record::LENGTH
-}
-
 // One for an answer that turns its record away, and nothing for any other.
+#[tactic(auto, unfolding(himib::specs::Runs::accepted))]
 fn refusal(answer: Answer) -> u64
     ensures { result ≡ refusal answer }
 {
     match answer {
-        Answer::Done => 0,
-        Answer::Sent(word, out) => 0,
-        Answer::Value(byte) => 0,
-        Answer::Refused(number) => 1,
+        Answer::Done | Answer::Sent(..) | Answer::Value(_) => 0,
+        Answer::Refused(_) => 1,
     }
 }
 
 // Takes every record of the input, one after the other; what is left at its end, if it is no whole record, is a record too, and is turned away. The counters
 // and addresses are lent to each record in turn, and never copied.
-pub fn take_all(
-    core0: Core,
-    counters0: [u32; Flat::COUNTERS],
-    addresses0: [u8; Flat::ADDRESSES],
-    h: Host,
-    input: &[u8],
-) -> Tallied
-    ensures { came_to result ≡ tally_of (standing core0 counters0 addresses0 h) input.now }
+pub fn take_all(chip: FlatChip, h: Host, input: &[u8]) -> Tallied
+    ensures { came_to result ≡ tally_of (standing chip h) input.now }
 {
-    let mut core = core0;
-    let mut counters = counters0;
-    let mut addresses = addresses0;
-    let mut record = h;
+    let mut core = chip.core;
+    let mut flat = chip.flat;
+    let mut host = h;
     let mut refused: u64 = 0;
-    let mut at: usize = 0;
-    while at < input.len() {
-        let next = end_of(at, input.len());
-        let r = record::read_record(&input[at..next]);
-        let asked = r.asked;
-        let source = r.source;
-        let t = himib::follow(core, &mut counters, &mut addresses, record, asked, source);
-        let after = t.core;
-        let altered = t.host;
-        let said = t.answer;
-        core = after;
-        record = altered;
-        refused = refused + refusal(said);
-        at = next;
+    for piece in input.chunks(Record::LENGTH) {
+        let r = record::read_record(piece);
+        let t = himib::follow(core, &mut flat, host, r.asked, r.source);
+        core = t.core;
+        host = t.host;
+        refused += refusal(t.answer);
     }
     Tallied {
-        core: core,
-        flat: Flat {
-            counters: counters,
-            addresses: addresses,
-        },
-        host: record,
-        refused: refused,
+        chip: FlatChip { core, flat },
+        host,
+        refused,
     }
 }

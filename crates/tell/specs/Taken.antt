@@ -7,7 +7,7 @@ use Rattle.std.specs.Prelude.{◌≡◌, ℕ, ◌+◌, ◌%◌, ◌^◌, List}
 use Rattle.chip.specs.Flat.{chip_of}
 use Rattle.himib.specs.Runs.{at, happening}
 use Rattle.telling.specs.Telling.{tell_of, Wrote}
-use Rattle.tell.specs.declared.State.{State}
+use Rattle.opening.specs.declared.State.{State}
 use Rattle.tell.specs.declared.Done.{Done}
 
 abbrev pub input_length : ℕ

@@ -1,22 +1,22 @@
 -- Laws that the functions' proofs cite. Assumes nothing.
---   both_same                == a list is the same where its first is and the rest is
+--   as_word, cond_le         == what a Bool is as a number
 --   spelt_append, spelt_more == the words of a longer list
 --   put_over                 == bytes that are put over the last byte of others
 --   line_put                 == what `put_line` does with room, but for the newline
 --   wrote_all, wrote_past, wrote_short == what `put_told` shows with room and without
 --   moved_made               == what the loop over the ports has made at its end
---   moved_any                == which counters moved does not depend on addresses; both_moved == such a word in front of a list
 --   told_made                == a step, its words and its line together
 use Prim.Native.Nat.{ℕ, zero, suc, ◌+◌, ◌-◌, ◌≤◌, ◌<◌}
-use mathlib.Core.Path.{◌≡◌, refl, sym, ap, ap₂, subst, ◌∙◌}
-use mathlib.Core.Bool.{Bool, true, false}
+use mathlib.Core.Path.{◌≡◌, refl, sym, ap, subst, ◌∙◌}
+use mathlib.Core.Bool.{Bool, true, false, cond}
+use mir.Val.{bool_byte}
 use mathlib.Core.List.{List, [], ◌∷◌, ◌++◌, append_assoc}
 use native.Mathlib.Omega.{arith}
 use borrow.Author.Tests.{le-leb, lt-leb}
 use lib.ListN.{length, length-append, get_or, set, take}
 use lib.Seq.{sets, sets-eq, set-set, take-suc}
-use Rattle.ports.specs.Sets.{port_count, gather}
-use Rattle.ports.proofs.Sets.{gather_from, from_all, gather_same}
+use Rattle.ports.specs.Sets.{gather}
+use Rattle.ports.proofs.Sets.{gather_from, from_all}
 use Rattle.host.specs.declared.Host.{Host}
 use Rattle.answer.specs.declared.Answer.{Answer}
 use Rattle.answer.specs.Numerals.{decimal, hex}
@@ -26,9 +26,6 @@ use Rattle.answer.proofs.Pieces.{put_then, put_as}
 use Rattle.answer.proofs.Lines.{next_place_lem}
 use Rattle.answer.proofs.Lengths.{line_length_ge}
 use Rattle.answer.proofs.Room as rooms
-use Rattle.attributes.specs.Nine.{counter_of}
-use Rattle.attributes.specs.Flat.{nine_of}
-use Rattle.attributes.proofs.FlatLaws.{counter_any}
 use Rattle.chip.specs.declared.FlatChip.{FlatChip}
 use Rattle.chip.specs.Flat.{chip_of}
 use Rattle.himib.specs.declared.Stepped.{Stepped}
@@ -36,10 +33,16 @@ use Rattle.himib.specs.declared.Left.{Left}
 use Rattle.himib.specs.Step.{step_of}
 use Rattle.himib.specs.Flat.{stepped_by}
 use Rattle.himib.specs.Runs.{happening, at}
-use Rattle.telling.specs.Telling.{spoken, spelt, told_as, differ, moved_of, words_of, tell_of, longest, roomy, Wrote, Tells}
+use Rattle.telling.specs.Telling.{spoken, spelt, told_as, words_of, tell_of, longest, roomy, Wrote, Tells}
 
-pub both_same : {x y : ℕ} {xs ys : List ℕ} → x ≡ y → xs ≡ ys → x ∷ xs ≡ y ∷ ys
-both_same e f = rw (e, f)
+-- a Bool as a number
+pub as_word : (b : Bool) → bool_byte b ≡ cond b 1 0
+as_word true = refl
+as_word false = refl
+
+pub cond_le : (b : Bool) → cond b 1 0 ≤ 1
+cond_le true = omega arith
+cond_le false = omega arith
 
 pub spelt_append : (xs ys : List ℕ) → spelt (xs ++ ys) ≡ spelt xs ++ spelt ys
 unfolding spelt
@@ -121,17 +124,6 @@ wrote_short old line place l h = wrote_nothing old line place (simp (le-leb _ _ 
 pub moved_made : (f : ℕ → Bool) (i m : ℕ) → i ≤ 0 → m ≡ gather_from 9 i f → m ≡ gather 9 f
 moved_made f zero m h e = e ∙ from_all 9 f
 moved_made f (suc i) m h e = absurd (omega arith)
-
-pub moved_any : (flat later a b : List ℕ) (r : ℕ) → moved_of (nine_of flat []) (nine_of later []) r ≡ moved_of (nine_of flat a) (nine_of later b) r
-unfolding moved_of
-moved_any flat later a b r =
-    gather_same port_count (λ i. differ (counter_of (nine_of flat []) i r) (counter_of (nine_of later []) i r))
-    (λ i. differ (counter_of (nine_of flat a) i r) (counter_of (nine_of later b) i r))
-    (λ i h. ap₂ differ (counter_any flat [] a i r) (counter_any later [] b i r))
-
-pub both_moved : (flat later a b : List ℕ) (r : ℕ) {x : ℕ} {xs ys : List ℕ} → x ≡ moved_of (nine_of flat []) (nine_of later []) r → xs ≡ ys
-    → x ∷ xs ≡ moved_of (nine_of flat a) (nine_of later b) r ∷ ys
-both_moved flat later a b r e f = both_same (e ∙ moved_any flat later a b r) f
 
 pub told_made : (s : FlatChip) (h : Host) (n : ℕ) (bs old new ws : List ℕ) (t : Left) (place next : ℕ) → stepped_by t ≡ step_of (chip_of s) h bs
     → ws ≡ words_of (chip_of s) (chip_of t.chip) t.host → Wrote old place (told_as n t.answer ws) new next

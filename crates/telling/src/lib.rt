@@ -1,13 +1,11 @@
 // One record told: what it was answered with, and what it left of the chip, as a line in a buffer that the caller lends. docs/REFERENCE.md has the line.
 #![tactic(auto)]
 
-ghost use Rattle.std.specs.Prelude.{◌≡◌, cond, [], ◌∷◌, ◌+◌, ◌*◌, ◌≤◌, ◌<◌, length, get_or};
-ghost use Rattle.attributes.specs.Flat.{nine_of};
+ghost use Rattle.std.specs.Prelude.{◌≡◌, [], ◌+◌, ◌≤◌, length, get_or};
+ghost use Rattle.attributes.specs.Flat.{nine_in};
 ghost use Rattle.chip.specs.Flat.{chip_of};
-ghost use Rattle.answer.specs.Numerals.{hex};
-ghost use Rattle.answer.specs.Line.{space};
 ghost use Rattle.answer.specs.Put.{Put};
-ghost use Rattle.telling.specs.Telling.{spelt, told_as, differ, moved_of, status_of, moved_total, words_of, longest, Wrote, Tells};
+ghost use Rattle.telling.specs.Telling.{spelt, told_as, moved_of, status_of, words_of, longest, Wrote, Tells};
 
 use answer::Answer;
 use attributes::Flat;
@@ -30,178 +28,94 @@ impl Told {
     pub const WORDS: usize = 28;
 }
 
-// The hexadecimal digits.
-const GLYPHS: [u8; 16] = [
-    b'0', b'1', b'2', b'3', b'4', b'5', b'6', b'7', b'8', b'9', b'a', b'b', b'c', b'd', b'e', b'f',
-];
-
 // Takes a record of any bytes and puts its line into `out`, from `at` on. Where less than `Told::ROOM` is left from `at` on, no line is put and the place behind
 // it is `at`.
 pub fn tell(chip: FlatChip, h: Host, number: u64, bytes: &[u8], out: &mut [u8], at: usize) -> Told
     ensures { Tells chip h number bytes.now out.old at result out.new }
 {
     let stepped = himib::step(chip, h, bytes);
-    let after = stepped.chip;
-    let left = stepped.host;
-    let said = stepped.answer;
-    let words = words_of(chip, after, left);
-    let next = put_told(out, at, number, said, words);
+    let words = words_of(chip, stepped.chip, stepped.host);
+    let next = put_told(out, at, number, stepped.answer, words);
     Told {
-        chip: after,
-        host: left,
-        next: next,
+        chip: stepped.chip,
+        host: stepped.host,
+        next,
     }
 }
 
 // The words of a record that led from one chip to another and left this host's record.
+#[tactic(auto, using(crate::proofs::TellingLaws::as_word), unfolding(crate::specs::Telling::words_of))]
 fn words_of(before: FlatChip, after: FlatChip, h: Host) -> [u16; Told::WORDS]
     ensures { result ≡ words_of (chip_of before) (chip_of after) h }
 {
     let core = after.core;
-    let repeater = core.repeater;
-    let changes = core.changes;
-    let was = before.core;
-    let kept = core.kept;
-    let had = was.kept;
-    let first = before.flat;
-    let last = after.flat;
-    let old = first.counters;
-    let new = last.counters;
-    let enabled = repeater.enabled();
-    let linked = repeater.linked();
-    let partitioned = repeater.partitioned();
-    let change0 = change(changes, 0);
-    let change1 = change(changes, 1);
-    let change2 = change(changes, 2);
-    let change3 = change(changes, 3);
-    let change4 = change(changes, 4);
-    let change6 = change(changes, 6);
-    let change7 = change(changes, 7);
-    let status = status_of(core);
-    let page = wide(h.page);
-    let register = wide(h.register);
-    let moved0 = moved(&old, &new, 0);
-    let moved1 = moved(&old, &new, 1);
-    let moved2 = moved(&old, &new, 2);
-    let moved3 = moved(&old, &new, 3);
-    let moved4 = moved(&old, &new, 4);
-    let moved5 = moved(&old, &new, 5);
-    let moved6 = moved(&old, &new, 6);
-    let moved7 = moved(&old, &new, 7);
-    let moved8 = moved(&old, &new, 8);
-    let moved9 = moved(&old, &new, 9);
-    let moved10 = moved(&old, &new, 10);
-    let moved11 = moved(&old, &new, 11);
-    let moved12 = moved(&old, &new, 12);
-    let collisions = moved_total(had.transmit_collisions, kept.transmit_collisions);
-    let octets = moved_total(had.total_octets, kept.total_octets);
+    // The thirteen counters stand here one by one, as in `words_of` of specs/Telling: a loop would fill a part of the array by its bounds, and be no plainer.
     [
-        enabled,
-        linked,
-        partitioned,
-        change0,
-        change1,
-        change2,
-        change3,
-        change4,
-        change6,
-        change7,
-        status,
-        page,
-        register,
-        moved0,
-        moved1,
-        moved2,
-        moved3,
-        moved4,
-        moved5,
-        moved6,
-        moved7,
-        moved8,
-        moved9,
-        moved10,
-        moved11,
-        moved12,
-        collisions,
-        octets,
+        core.repeater.enabled(),
+        core.repeater.linked(),
+        core.repeater.partitioned(),
+        change(core, 0),
+        change(core, 1),
+        change(core, 2),
+        change(core, 3),
+        change(core, 4),
+        change(core, 6),
+        change(core, 7),
+        status_of(core),
+        u16::from(h.page),
+        u16::from(h.register),
+        moved(&before.flat, &after.flat, 0),
+        moved(&before.flat, &after.flat, 1),
+        moved(&before.flat, &after.flat, 2),
+        moved(&before.flat, &after.flat, 3),
+        moved(&before.flat, &after.flat, 4),
+        moved(&before.flat, &after.flat, 5),
+        moved(&before.flat, &after.flat, 6),
+        moved(&before.flat, &after.flat, 7),
+        moved(&before.flat, &after.flat, 8),
+        moved(&before.flat, &after.flat, 9),
+        moved(&before.flat, &after.flat, 10),
+        moved(&before.flat, &after.flat, 11),
+        moved(&before.flat, &after.flat, 12),
+        u16::from(before.core.kept.transmit_collisions != core.kept.transmit_collisions),
+        u16::from(before.core.kept.total_octets != core.kept.total_octets),
     ]
 }
 
-// A byte as a word.
-fn wide(byte: u8) -> u16
-    ensures { result ≡ byte }
-{
-    byte as u16
-}
-
 // A change register.
-fn change(changes: [u8; changes::REGISTERS], register: usize) -> u16
-    ensures { result ≡ get_or changes register 0 }
+fn change(core: Core, register: usize) -> u16
+    ensures { result ≡ get_or core.changes register 0 }
 {
-    wide(changes::bits_at(changes, register))
+    u16::from(changes::bits_at(core.changes, register))
 }
 
-// What a C read would give.
+// What a C read would give: the interrupt in bit 7, the interface error in bit 6.
 fn status_of(core: Core) -> u16
     ensures { result ≡ status_of core }
 {
-    let changes = core.changes;
-    let enables = core.enables;
-    let interrupt = wide(changes::bit_7(changes::is_pending(changes, enables)));
-    with_error(interrupt, core.interface_error)
-}
-
-// The interrupt bit with the interface error's below it.
-fn with_error(interrupt: u16, error: bool) -> u16
-    requires { interrupt ≤ 128 }
-    ensures { result ≡ interrupt + cond error 64 0 }
-{
-    if error {
-        return interrupt + 64;
+    let interrupt = u16::from(changes::bit_7(changes::is_pending(core.changes, core.enables)));
+    if core.interface_error {
+        interrupt + 64
+    } else {
+        interrupt
     }
-    interrupt
-}
-
-// Whether a number has moved.
-fn differs(before: u32, after: u32) -> bool
-    ensures { result ≡ differ before after }
-{
-    before != after
-}
-
-// The same as a word.
-fn moved_total(before: u32, after: u32) -> u16
-    ensures { result ≡ moved_total before after }
-{
-    if differs(before, after) { 1 } else { 0 }
-}
-
-// A mask with one place more below the others.
-fn push(mask: u16, b: bool) -> u16
-    requires { mask < 32768 }
-    ensures { result ≡ 2 * mask + cond b 1 0 }
-{
-    if b { 2 * mask + 1 } else { 2 * mask }
 }
 
 // The ports whose counter R has moved.
-fn moved(before: &[u32; Flat::COUNTERS], after: &[u32; Flat::COUNTERS], register: usize) -> u16
-    ensures { result ≡ moved_of (nine_of before.now []) (nine_of after.now []) register }
+fn moved(before: &Flat, after: &Flat, register: usize) -> u16
+    ensures { result ≡ moved_of (nine_in before.now) (nine_in after.now) register }
 {
     let mut mask: u16 = 0;
-    let mut i: usize = ports::COUNT;
-    while 0 < i {
-        i = i - 1;
-        let moves = differs(
-            attributes::counter(before, i, register),
-            attributes::counter(after, i, register),
-        );
-        mask = push(mask, moves);
+    // A counter is asked for by its port; nothing is walked here.
+    for i in (0..ports::COUNT).rev() {
+        let moves = before.counter(i, register) != after.counter(i, register);
+        mask = 2 * mask + u16::from(moves);
     }
     mask
 }
 
 // The line of an answer and its words, where there is room for any.
+// The buffer and the place in it stay two parameters here and below: `tell` is given them so, and gives them on to `answer::put_line`, and the contracts of both say so.
 fn put_told(
     out: &mut [u8],
     at: usize,
@@ -211,10 +125,8 @@ fn put_told(
 ) -> usize
     ensures { Wrote out.old at (told_as number answer words) out.new result }
 {
-    if at <= out.len() {
-        if Told::ROOM <= out.len() - at {
-            return put_whole(out, at, number, answer, words);
-        }
+    if at <= out.len() && Told::ROOM <= out.len() - at {
+        return put_whole(out, at, number, answer, words);
     }
     at
 }
@@ -233,7 +145,8 @@ fn put_whole(
 {
     let behind = answer::put_line(out, at, number, answer);
     let last = put_words(out, behind - 1, words);
-    put_byte(out, last, b'\n')
+    out[last] = b'\n';
+    last + 1
 }
 
 // The words.
@@ -243,42 +156,8 @@ fn put_words(out: &mut [u8], at: usize, words: [u16; Told::WORDS]) -> usize
     ensures value { result ≡ at + 112 }
 {
     let mut next = at;
-    for i in 0..Told::WORDS {
-        let word = words[i];
-        next = put_word(out, next, word);
+    for word in words {
+        next = answer::put_mask(out, next, word);
     }
     next
-}
-
-// A space and the three digits of a word.
-fn put_word(out: &mut [u8], at: usize, word: u16) -> usize
-    requires { at + 4 ≤ length out.old }
-    ensures { Put out.old at (space ∷ hex 3 word) out.new result }
-{
-    let glyphs = GLYPHS;
-    let high = glyphs[(word / 16 / 16 % 16) as usize];
-    let middle = glyphs[(word / 16 % 16) as usize];
-    let low = glyphs[(word % 16) as usize];
-    put_four(out, at, b' ', high, middle, low)
-}
-
-// Four bytes in order.
-fn put_four(out: &mut [u8], at: usize, a: u8, b: u8, c: u8, d: u8) -> usize
-    requires { at + 4 ≤ length out.old }
-    ensures { Put out.old at (a ∷ b ∷ c ∷ d ∷ []) out.new result }
-{
-    out[at] = a;
-    out[at + 1] = b;
-    out[at + 2] = c;
-    out[at + 3] = d;
-    at + 4
-}
-
-// One byte.
-fn put_byte(out: &mut [u8], at: usize, byte: u8) -> usize
-    requires { at < length out.old }
-    ensures { Put out.old at (byte ∷ []) out.new result }
-{
-    out[at] = byte;
-    at + 1
 }

@@ -33,7 +33,7 @@ use Rattle.lent.specs.Lent.{together, requested, c_write, c_read, d_write, d_rea
 use Rattle.lent.proofs.Kept.{lent_kept, step_kept}
 use Rattle.pass.specs.Judged.{happens, history, run}
 use Rattle.pass.specs.Examples.{up}
-use Rattle.ties.specs.Outcomes.{OneLine, chip_in, OneBlock, OnePiece, OneList, OneLent, Takes, Steps, StillLent, LentIsStill}
+use Rattle.ties.specs.Outcomes.{OneLine, OneBlock, OnePiece, OneList, OneLent, Takes, Steps, StillLent, LentIsStill}
 use Rattle.ties.specs.Outcomes.{asked_in, LentCallsAreARun}
 
 -- INSTANCES
@@ -74,10 +74,10 @@ pub one_line : OneLine
 one_line old at n a x y r s p q = (p.next ∙ sym q.next, p.bytes ∙ sym q.bytes)
 
 pub one_block : OneBlock
-one_block core flat addresses h n input out r s x y a b p q =
+one_block c h n input out r s x y a b p q =
     let e : came_to r x ≡ came_to s y = p.is ∙ sym q.is in
-    let c : chip_in r ≡ chip_in s = chip_one (chip_in r) (chip_in s) a b (ap (λ (w : Work). w.point.chip) e) in (
-      ap₂ (λ (k : FlatChip) (w : Work). record { core = k.core; flat = k.flat; host = w.point.host; number = w.number; at = w.at; used = w.used }) c e,
+    let d : r.chip ≡ s.chip = chip_one r.chip s.chip a b (ap (λ (w : Work). w.point.chip) e) in (
+      ap₂ (λ (k : FlatChip) (w : Work). record { chip = k; host = w.point.host; number = w.number; at = w.at; used = w.used }) d e,
       ap (λ (w : Work). w.out) e,
     )
 

@@ -1,7 +1,7 @@
 -- Document 01, 'What each statement must settle', of the functions that speak of counters and addresses as they are kept: any pair of outcomes that a contract allows is
 -- equal, arrays and all. What is lent or given back by value has as many places as its type says.
 --   OneFlat      == `zero` and `with_port` of attributes; OneChip == `power_up` of chip; OneLeft == `take` and `step` of himib; OneStart == `start_chip` of start
---   OneReaddress, OneCredit == `readdress` and `credit` of attributes, over the arrays that they are lent
+--   OneReaddress, OneCredit == `readdress` and `credit` of attributes, over the Flat that they are lent
 --   OneBurst, OneFollow     == `burst` and `follow` of himib, likewise
 -- Assumes nothing.
 use Rattle.std.specs.Prelude.{ℕ, ◌≡◌, List, length}
@@ -27,7 +27,7 @@ use Rattle.start.specs.declared.Started.{Started}
 use Rattle.start.specs.Flat.{started_by}
 
 abbrev pub OneFlat : Type 0
-OneFlat = (nine : Nine) (r s : Flat) → Fit r.counters r.addresses → Fit s.counters s.addresses → nine_in r ≡ nine → nine_in s ≡ nine → r ≡ s
+OneFlat = (nine : Nine) (r s : Flat) → Fit r → Fit s → nine_in r ≡ nine → nine_in s ≡ nine → r ≡ s
 
 abbrev pub OneChip : Type 0
 OneChip = (t : Powered) (r s : FlatPowered) → Sized r.chip → Sized s.chip → powered_by r ≡ t → powered_by s ≡ t → r ≡ s
@@ -40,19 +40,19 @@ OneStart = (t : Started) (r s : Opened) → Sized r.chip → Sized s.chip → st
 
 abbrev pub OneReaddress : Type 0
 OneReaddress =
-    (i : ℕ) (source addresses x y : List ℕ) → length addresses ≡ spots_size → Readdressed i source addresses x → Readdressed i source addresses y → x ≡ y
+    (i : ℕ) (source : List ℕ) (flat x y : Flat) → length flat.addresses ≡ spots_size → Readdressed i source flat x → Readdressed i source flat y → x ≡ y
 
 abbrev pub OneCredit : Type 0
 OneCredit =
-    (met : Met) (b : Burst) (source flat addresses : List ℕ) (r s : Due) (later last x y : List ℕ) → Fit flat addresses
-    → Credited met b source flat addresses r later last → Credited met b source flat addresses s x y → (r ≡ s) × (later ≡ x) × (last ≡ y)
+    (met : Met) (b : Burst) (source : List ℕ) (flat : Flat) (r s : Due) (x y : Flat) → Fit flat → Credited met b source flat r x
+    → Credited met b source flat s y → (r ≡ s) × (x ≡ y)
 
 abbrev pub OneBurst : Type 0
 OneBurst =
-    (c : Core) (b : Burst) (source flat addresses : List ℕ) (r s : Spoken) (later last x y : List ℕ) → Fit flat addresses
-    → Bursts c b source flat addresses r later last → Bursts c b source flat addresses s x y → (r ≡ s) × (later ≡ x) × (last ≡ y)
+    (c : Core) (b : Burst) (source : List ℕ) (flat : Flat) (r s : Spoken) (x y : Flat) → Fit flat → Bursts c b source flat r x
+    → Bursts c b source flat s y → (r ≡ s) × (x ≡ y)
 
 abbrev pub OneFollow : Type 0
 OneFollow =
-    (c : Core) (h : Host) (asked : Asked) (source flat addresses : List ℕ) (r s : Followed) (later last x y : List ℕ) → Fit flat addresses
-    → Follows c h asked source flat addresses r later last → Follows c h asked source flat addresses s x y → (r ≡ s) × (later ≡ x) × (last ≡ y)
+    (c : Core) (h : Host) (asked : Asked) (source : List ℕ) (flat : Flat) (r s : Followed) (x y : Flat) → Fit flat → Follows c h asked source flat r x
+    → Follows c h asked source flat s y → (r ≡ s) × (x ≡ y)

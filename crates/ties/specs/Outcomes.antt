@@ -15,7 +15,6 @@ use Rattle.host.specs.declared.Host.{Host}
 use Rattle.answer.specs.declared.Answer.{Answer}
 use Rattle.answer.specs.declared.Answer.TheVariants.{Refused}
 use Rattle.answer.specs.Put.{WrittenLine}
-use Rattle.chip.specs.declared.Core.{Core}
 use Rattle.chip.specs.declared.FlatChip.{FlatChip}
 use Rattle.chip.specs.Flat.{chip_of, Sized}
 use Rattle.himib.specs.Step.{step_of}
@@ -31,15 +30,10 @@ abbrev pub OneLine : Type 0
 OneLine =
     (old : List ℕ) (at n : ℕ) (a : Answer) (x y : List ℕ) (r s : ℕ) → WrittenLine old at n a x r → WrittenLine old at n a y s → (r ≡ s) × (x ≡ y)
 
--- the chip that a block leaves, as it is kept
-abbrev pub chip_in : Block → FlatChip
-chip_in b = record { core = b.core; flat = b.flat }
-
 abbrev pub OneBlock : Type 0
 OneBlock =
-    (core : Core) (flat addresses : List ℕ) (h : Host) (n : ℕ) (input out : List ℕ) (r s : Block) (x y : List ℕ) → Sized (chip_in r) → Sized (chip_in s)
-    → Answered (standing core flat addresses h) n input out (came_to r x) → Answered (standing core flat addresses h) n input out (came_to s y)
-    → (r ≡ s) × (x ≡ y)
+    (c : FlatChip) (h : Host) (n : ℕ) (input out : List ℕ) (r s : Block) (x y : List ℕ) → Sized r.chip → Sized s.chip
+    → Answered (standing c h) n input out (came_to r x) → Answered (standing c h) n input out (came_to s y) → (r ≡ s) × (x ≡ y)
 
 abbrev pub OnePiece : Type 0
 OnePiece =

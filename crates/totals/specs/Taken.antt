@@ -7,15 +7,13 @@
 --   outcome_in bs    == the same of all bytes of an input together
 --   InputDecides    == stretches of whole readings and a last one of any bytes: what is said is decided by their bytes, one behind the other
 -- Assumes nothing.
-use Rattle.std.specs.Prelude.{ℕ, ◌≡◌, cond, List, [], ◌∷◌, ◌++◌, ltb}
-use Rattle.attributes.specs.declared.octets.Total.{Total}
-use Rattle.attributes.specs.declared.octets.Total.TheVariants.{Sum, TooLarge}
+use Rattle.std.specs.Prelude.{ℕ, ◌≡◌, cond, List, [], ◌∷◌, ◌++◌, Option, Some, None, Result, Ok, Err, ltb}
 use Rattle.attributes.specs.Octets.{total_of, answered}
 use Rattle.chain.specs.Chain.{readings_in, rest_of, none, onward}
 use Rattle.chain.specs.Blocks.{AllWhole, joined}
 use Rattle.totals.specs.declared.Taken.{Taken}
-use Rattle.totals.specs.declared.Outcome.{Outcome}
-use Rattle.totals.specs.declared.Outcome.TheVariants.{Left, NoFit, Number}
+use Rattle.totals.specs.declared.Unsummed.{Unsummed}
+use Rattle.totals.specs.declared.Unsummed.TheVariants.{Left, NoFit}
 
 abbrev pub nothing_yet : Taken
 nothing_yet = record { chain = none; rest = 0 }
@@ -27,15 +25,15 @@ unfoldable pub taken_in : Taken → List (List ℕ) → Taken
 taken_in s [] = s
 taken_in s (bs ∷ bss) = taken_in (taken_on s bs) bss
 
-abbrev pub said_of : Total → Outcome
-said_of (Sum n) = Number n
-said_of TooLarge = NoFit
+abbrev pub said_of : Option ℕ → Result ℕ Unsummed
+said_of (Some n) = Ok n
+said_of None = Err NoFit
 
-unfoldable pub outcome_of : Taken → Outcome
-outcome_of s = cond (ltb 0 s.rest) (Left s.rest) (said_of s.chain.total)
+unfoldable pub outcome_of : Taken → Result ℕ Unsummed
+outcome_of s = cond (ltb 0 s.rest) (Err (Left s.rest)) (said_of s.chain.total)
 
-abbrev pub outcome_in : List ℕ → Outcome
-outcome_in bs = cond (ltb 0 (rest_of bs)) (Left (rest_of bs)) (said_of (answered (total_of (readings_in bs))))
+abbrev pub outcome_in : List ℕ → Result ℕ Unsummed
+outcome_in bs = cond (ltb 0 (rest_of bs)) (Err (Left (rest_of bs))) (said_of (answered (total_of (readings_in bs))))
 
 abbrev pub InputDecides : Type 0
 InputDecides =

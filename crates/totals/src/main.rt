@@ -6,14 +6,36 @@
 // Where the input ends within a reading, or where the sum does not fit in 64 bits, that is told on standard error, and no sum is printed.
 #![tactic(auto)]
 
-ghost use Rattle.std.specs.Prelude.{◌≡◌, ◌≤◌, length};
-ghost use Rattle.totals.specs.Taken.{taken_on, outcome_of};
+ghost use Rattle.std.specs.Prelude.{◌≡◌};
+ghost use Rattle.totals.specs.Taken.{nothing_yet, taken_on, outcome_of};
 
-use attributes::octets::Total;
 use chain::Chain;
-use std::env::FillError;
+use console::{is_given, read_full};
+use std::error::Error;
+use std::fmt;
 use std::io::Read;
 use std::rt::Env;
+
+// Why there is no sum.
+#[derive(Clone, Copy, Debug, PartialEq, Eq)]
+enum Unsummed {
+    // So many bytes stand behind the last whole reading.
+    Left(usize),
+    // 64 bits do not hold it.
+    NoFit,
+}
+
+impl fmt::Display for Unsummed {
+    fn fmt<W: fmt::Write>(&self, f: &mut fmt::Formatter<W>) -> fmt::Result {
+        match self {
+            Unsummed::Left(1) => write!(f, "behind the last whole reading is 1 byte more"),
+            Unsummed::Left(n) => write!(f, "behind the last whole reading are {n} bytes more"),
+            Unsummed::NoFit => write!(f, "the sum reaches 2^64 and does not fit in 64 bits"),
+        }
+    }
+}
+
+impl Error for Unsummed {}
 
 // What the readings so far come to, and how many bytes of the last stretch of input stand behind its last whole reading.
 #[derive(Clone, Copy)]
@@ -22,145 +44,66 @@ struct Taken {
     rest: usize,
 }
 
-// What there is to say at the end: that bytes are left over, that the sum does not fit, or the sum.
-#[derive(Clone, Copy)]
-enum Outcome {
-    Left(usize),
-    NoFit,
-    Number(u64),
-}
+impl Taken {
+    fn nothing_yet() -> Self
+        ensures { result ≡ nothing_yet }
+    {
+        Self {
+            chain: Chain::none(),
+            rest: 0,
+        }
+    }
 
-// After one stretch of input: what has come so far, and whether to go on.
-#[derive(Clone, Copy)]
-struct Turn {
-    state: Taken,
-    going: bool,
-}
+    // The readings of one stretch of input, behind those before it.
+    fn followed_by(self, input: &[u8]) -> Self
+        ensures { result ≡ taken_on self input.now }
+    {
+        Self {
+            chain: chain::take_readings(self.chain, input),
+            rest: input.len() % Chain::READING,
+        }
+    }
 
-// Takes the readings of one stretch of input, behind those before it.
-fn take_more(state: Taken, input: &[u8]) -> Taken
-    ensures { result ≡ taken_on state input.now }
-{
-    let before = state.chain;
-    let after = chain::take_readings(before, input);
-    Taken {
-        chain: after,
-        rest: input.len() % Chain::READING,
+    // What there is to say at the end: the sum, or why there is none.
+    #[tactic(auto, unfolding(crate::specs::Taken::outcome_of))]
+    fn outcome(self) -> Result<u64, Unsummed>
+        ensures { result ≡ outcome_of self }
+    {
+        if 0 < self.rest {
+            return Err(Unsummed::Left(self.rest));
+        }
+        self.chain.total.ok_or(Unsummed::NoFit)
     }
 }
 
-// What there is to say.
-fn outcome_of(state: Taken) -> Outcome
-    ensures { result ≡ outcome_of state }
-{
-    let rest = state.rest;
-    if 0 < rest {
-        return Outcome::Left(rest);
-    }
-    let readings = state.chain;
-    let total = readings.total;
-    match total {
-        Total::Sum(n) => Outcome::Number(n),
-        Total::TooLarge => Outcome::NoFit,
-    }
-}
-
-// Reads until the buffer is full, the input ends or a read fails, and tells how many bytes came.
-fn read_full(input: &mut impl Read, buf: &mut [u8]) -> usize
-    ensures { result ≤ length buf.new }
-{
-    let mut done = 0;
-    while done < buf.len() {
-        let got = input.read(&mut buf[done..]).unwrap_or(0);
-        if got == 0 {
+// Stretch after stretch of the input. One that does not fill the buffer is the last, so no other ends in a piece of a reading. A proved loop has to end, and
+// no run comes to the last of these turns.
+fn take_all(input: &mut impl Read, buf: &mut [u8]) -> Taken {
+    let mut taken = Taken::nothing_yet();
+    for _ in 0..u64::MAX {
+        let n = read_full(input, buf);
+        taken = taken.followed_by(&buf[..n]);
+        if n < buf.len() {
             break;
         }
-        done += got;
     }
-    done
+    taken
 }
 
-// One stretch of input and its readings. One that does not fill the buffer is the last, so no other ends in a piece of a reading.
-fn one_turn(input: &mut impl Read, state: Taken, buf: &mut [u8]) -> Turn {
-    let n = read_full(input, buf);
-    let next = take_more(state, &buf[..n]);
-    Turn {
-        state: next,
-        going: n == buf.len(),
-    }
-}
-
-// A proved loop has to end, so the stretches are counted down from a number that no run uses up.
-fn pump(input: &mut impl Read, state: Taken, buf: &mut [u8]) -> Taken {
-    let mut turns = u64::MAX;
-    let mut s = state;
-    let mut going = true;
-    while turns > 0 && going {
-        let t = one_turn(input, s, buf);
-        let next = t.state;
-        s = next;
-        going = t.going;
-        turns -= 1;
-    }
-    s
-}
-
-fn complain(rt: &impl Eprint, text: &str) {
-    let _ = rt.eprint(text);
-}
-
-// How many bytes stand behind the last whole reading.
-fn tell_left(rt: &impl Eprint, n: usize) {
-    if n == 1 {
-        complain(rt, "totals: behind the last whole reading is 1 byte more\n");
-        return;
-    }
-    let _ = eprintln!(rt; "totals: behind the last whole reading are {n} bytes more");
-}
-
-fn say_number(rt: &impl Print, n: u64) {
-    let _ = println!(rt; "{n}");
-}
-
-fn tell(rt: &(impl Print + Eprint), outcome: Outcome) {
-    match outcome {
-        Outcome::Left(n) => tell_left(rt, n),
-        Outcome::NoFit => {
-            complain(
-                rt,
-                "totals: the sum reaches 2^64 and does not fit in 64 bits\n",
-            )
-        }
-        Outcome::Number(n) => say_number(rt, n),
-    }
-}
-
-// Whether the program was given an argument i.
-fn has_argument(rt: &impl Env, i: usize) -> bool {
-    match rt.arg(i, &mut []) {
-        Err(FillError::NotPresent) => false,
-        _ => true,
-    }
+// Text that cannot be written is lost.
+fn tell(rt: &(impl Print + Eprint), outcome: Result<u64, Unsummed>) {
+    let _ = match outcome {
+        Ok(sum) => println!(rt; "{sum}"),
+        Err(unsummed) => eprintln!(rt; "totals: {unsummed}"),
+    };
 }
 
 fn main(rt: HostRuntime) {
-    if has_argument(&rt, 1) {
-        complain(
-            &rt,
-            "totals: expected no argument, the readings come on standard input\n",
-        );
+    if is_given(rt.arg(1, &mut [])) {
+        let _ = eprintln!(rt; "totals: expected no argument, the readings come on standard input");
         return;
     }
     let mut input = rt.stdin();
     let mut buf = [0u8; 65536];
-    let none = Chain::none();
-    let done = pump(
-        &mut input,
-        Taken {
-            chain: none,
-            rest: 0,
-        },
-        &mut buf,
-    );
-    tell(&rt, outcome_of(done));
+    tell(&rt, take_all(&mut input, &mut buf).outcome());
 }

@@ -1,11 +1,17 @@
-use Rattle.chain.proofs.Loops.{begins, turned, ends}
+use Rattle.std.proofs.Common.{◌∙◌, arith}
+use Rattle.chain.proofs.Loops.{turned, ends}
 use Rattle.chain.proofs.take_readings.Goals as goal
 
-pub loop-at-init : goal.loop-at-init
-loop-at-init c = begins _ _
-
-pub loop-at-preserved : goal.loop-at-preserved
-loop-at-preserved c = turned _ _ _ _ c.loop-at.invariant _ c.loop-at-test.true c.take_piece-c.ensures
+pub loop-reading-preserved : goal.loop-reading-preserved
+loop-reading-preserved c =
+    let steps = c.in-Some.ensures.steps in
+    let so_far = c.loop-reading.invariant in
+    record {
+      whole = steps.0 ∙ so_far.whole;
+      stands = turned _ _ _ _ so_far.stands _ _ steps.1.0 (steps.1.1 ∙ so_far.whole) _ c.four.ensures _ c.followed_by-so_far.ensures;
+    }
 
 pub returns : goal.returns
-returns c = ends _ _ _ _ c.loop-at.invariant _ c.take_piece.ensures
+returns c =
+    let so_far = c.loop-reading.invariant in
+    ends _ _ _ _ so_far.stands (omega (arith, c.in-None.ensures.steps.1.0, so_far.whole))

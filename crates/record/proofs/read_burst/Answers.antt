@@ -4,35 +4,29 @@ use Rattle.record.proofs.Cases.{burst_stray, burst_high, burst_bad, burst_still,
 use Rattle.record.proofs.read_burst.Goals as goal
 
 pub returns-then-stray_burst : goal.returns-then-stray_burst
-returns-then-stray_burst c =
-    c.refused.ensures
-    ∙ burst_stray _ c.requires.0 c.requires.1 (sym c.stray_burst.ensures ∙ c.if-stray_burst.true)
+returns-then-stray_burst c = burst_stray _ c.told-bytes c.requires (sym c.stray_burst.ensures ∙ c.if-stray_burst.true)
 
 pub returns-then-burst-ge-MASK_END : goal.returns-then-burst-ge-MASK_END
 returns-then-burst-ge-MASK_END c =
-    c.refused-then-burst-ge-MASK_END.ensures
-    ∙ burst_high _ c.requires.0 c.requires.1 (sym c.stray_burst.ensures ∙ c.if-stray_burst.false) _ c.read-burst.ensures
+    burst_high _ c.told-bytes c.requires (sym c.stray_burst.ensures ∙ c.if-stray_burst.false) _ c.read-burst.ensures
     (le-leb _ _ c.if-burst-ge-MASK_END.true)
 
 pub returns-then-bad_numbers : goal.returns-then-bad_numbers
 returns-then-bad_numbers c =
-    c.refused-then-bad_numbers.ensures
-    ∙ burst_bad _ c.requires.0 c.requires.1 (sym c.stray_burst.ensures ∙ c.if-stray_burst.false) _ c.read-burst.ensures
+    burst_bad _ c.told-bytes c.requires (sym c.stray_burst.ensures ∙ c.if-stray_burst.false) _ c.read-burst.ensures
     (lt-leb _ _ c.if-burst-ge-MASK_END.false)
     (sym c.bad_numbers.ensures ∙ c.if-bad_numbers.true)
 
 pub returns-then-nothing_active : goal.returns-then-nothing_active
 returns-then-nothing_active c =
-    c.refused-then-nothing_active.ensures
-    ∙ burst_still _ c.requires.0 c.requires.1 (sym c.stray_burst.ensures ∙ c.if-stray_burst.false) _ c.read-burst.ensures
+    burst_still _ c.told-bytes c.requires (sym c.stray_burst.ensures ∙ c.if-stray_burst.false) _ c.read-burst.ensures
     (lt-leb _ _ c.if-burst-ge-MASK_END.false)
     (sym c.bad_numbers.ensures ∙ c.if-bad_numbers.false)
     (sym c.nothing_active.ensures ∙ c.if-nothing_active.true)
 
 pub returns : goal.returns
 returns c =
-    c.accepted.ensures
-    ∙ burst_taken _ c.requires.0 c.requires.1 (sym c.stray_burst.ensures ∙ c.if-stray_burst.false) _ c.read-burst.ensures
+    burst_taken _ c.told-bytes c.requires (sym c.stray_burst.ensures ∙ c.if-stray_burst.false) _ c.read-burst.ensures
     (lt-leb _ _ c.if-burst-ge-MASK_END.false)
     (sym c.bad_numbers.ensures ∙ c.if-bad_numbers.false)
     (sym c.nothing_active.ensures ∙ c.if-nothing_active.false)

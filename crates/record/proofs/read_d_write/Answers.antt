@@ -3,11 +3,7 @@ use Rattle.record.proofs.Cases.{d_write_lem}
 use Rattle.record.proofs.read_d_write.Goals as goal
 
 pub returns-then-stray_write : goal.returns-then-stray_write
-returns-then-stray_write c =
-    c.refused.ensures
-    ∙ rw (sym c.stray_write.ensures ∙ c.if-stray_write.true) at (d_write_lem c.args.bytes.now c.requires.0 c.requires.1)
+returns-then-stray_write c = rw (sym c.stray_write.ensures ∙ c.if-stray_write.true) at (d_write_lem c.args.bytes.now c.told-bytes c.requires)
 
 pub returns : goal.returns
-returns c =
-    c.accepted.ensures
-    ∙ rw (sym c.stray_write.ensures ∙ c.if-stray_write.false) at (d_write_lem c.args.bytes.now c.requires.0 c.requires.1)
+returns c = rw (sym c.stray_write.ensures ∙ c.if-stray_write.false) at (d_write_lem c.args.bytes.now c.told-bytes c.requires)

@@ -2,5 +2,4 @@ use Rattle.record.proofs.Strays.{stray_write}
 use Rattle.record.proofs.stray_write.Goals as goal
 
 pub returns : goal.returns
-returns c =
-    rw (stray_write, c.long-3.ensures.0, c.long-2.ensures.0, c.long.ensures.0, c.four-first.ensures, c.four-fourth.ensures, c.other_words.ensures)
+returns c = rw (stray_write, c.four-first.ensures, c.four-fourth.ensures, c.other_words.ensures)

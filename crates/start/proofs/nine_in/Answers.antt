@@ -20,10 +20,10 @@ module _ (s : List ℕ) (nine : Nine) where
   one_more i port e f = let k : i + 1 ≡ suc i = omega arith in rw (k, e, f)
 
 pub loop-i-init : goal.loop-i-init
-loop-i-init c = (search rules, none_yet _ _ c.zero-flat.ensures)
+loop-i-init c = none_yet _ _ c.zero-flat.ensures
 
 pub loop-i-preserved : goal.loop-i-preserved
-loop-i-preserved c = let l = c.loop-i in (omega arith, c.with_port-next.ensures ∙ one_more _ _ _ _ l.invariant.1 c.port_from-port.ensures)
+loop-i-preserved c = let l = c.loop-i in c.with_port-flat.ensures ∙ one_more _ _ _ _ l.invariant c.port_from.ensures
 
 pub returns : goal.returns
-returns c = let all : c.loop-i.i ≡ port_count = omega arith in c.loop-i.invariant.1 ∙ ap (nine_up_to _) all
+returns c = let all : c.loop-i.i ≡ port_count = omega arith in c.loop-i.invariant ∙ ap (nine_up_to _) all

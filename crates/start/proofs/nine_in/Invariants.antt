@@ -1,12 +1,7 @@
-use Prim.Native.Nat.{◌≤◌, ◌-◌}
 use mathlib.Core.Path.{◌≡◌}
-use Rattle.ports.specs.Sets.{port_count}
 use Rattle.attributes.specs.Flat.{nine_in}
 use Rattle.start.specs.Start.{nine_up_to}
 use Rattle.start.proofs.nine_in.Given as goal
 
 abbrev pub invariant-loop-i : goal.invariant-loop-i
-invariant-loop-i l = (l.i ≤ port_count) × (nine_in l.flat ≡ nine_up_to l.s l.i)
-
-abbrev pub decreases-loop-i : goal.decreases-loop-i
-decreases-loop-i l = port_count - l.i
+invariant-loop-i l = nine_in l.flat ≡ nine_up_to l.s l.i

@@ -29,13 +29,13 @@ module _ (s : List ℕ) (t : Started) (given : Supply) where
   unfolding started_of
   with_nothing h e f = e ∙ rw (h, f)
 
-pub supply_in-given-requires : goal.supply_in-given-requires
-supply_in-given-requires c = long_enough _ (sym c.fits_in.ensures ∙ c.if-fits_in.true)
+pub supply_in-requires : goal.supply_in-requires
+supply_in-requires c = long_enough _ (sym c.fits_in.ensures ∙ c.if-fits_in.true)
 
 pub returns-then-fits_in : goal.returns-then-fits_in
 returns-then-fits_in c =
-    with_file _ _ _ (sym c.fits_in.ensures ∙ c.if-fits_in.true) c.open_with.ensures c.supply_in-given.ensures
+    with_file _ _ _ (sym c.fits_in.ensures ∙ c.if-fits_in.true) c.open_with.ensures c.supply_in.ensures
 
-pub returns : goal.returns
-returns c =
-    with_nothing _ _ _ (sym c.fits_in.ensures ∙ c.if-fits_in.false) c.open_with-2.ensures c.nothing-given.ensures
+pub returns-else-fits_in : goal.returns-else-fits_in
+returns-else-fits_in c =
+    with_nothing _ _ _ (sym c.fits_in.ensures ∙ c.if-fits_in.false) c.open_with-else-fits_in.ensures c.nothing.ensures

@@ -1,12 +1,14 @@
-use Prim.Native.Nat.{◌-◌}
-use lib.ListN.{length}
-use Rattle.tally.specs.Tally.{standing}
+use Rattle.std.proofs.Common.{◌≡◌, ◌-◌, length, drop}
+use Rattle.std.specs.Slice.Iter.{chunks_rest, chunks_size}
+use Rattle.record.specs.Record.{record_length}
+use Rattle.chip.specs.Flat.{holding}
+use Rattle.himib.specs.Runs.{at}
 use Rattle.tally.proofs.TallyLaws.{Stands}
 use Rattle.tally.proofs.take_all.Given as goal
 
-abbrev pub invariant-loop-at : goal.invariant-loop-at
-invariant-loop-at l =
-    Stands (standing l.initial.core l.initial.counters l.initial.addresses l.initial.«record») l.input l.core l.counters l.addresses l.«record» l.refused l.at
-
-abbrev pub decreases-loop-at : goal.decreases-loop-at
-decreases-loop-at l = length l.input - l.at
+-- the next piece begins where the bytes begin that are left
+abbrev pub invariant-loop-piece : goal.invariant-loop-piece
+invariant-loop-piece l =
+    let from = length l.input - length (chunks_rest l.piece-iterator) in
+    (chunks_size l.piece-iterator ≡ record_length) × (chunks_rest l.piece-iterator ≡ drop from l.input)
+    × Stands (at (holding l.initial.core l.initial.flat) l.initial.host) l.input l.core l.flat l.host l.refused from

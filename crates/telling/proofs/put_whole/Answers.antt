@@ -1,4 +1,5 @@
 use native.Mathlib.Omega.{arith}
+use mathlib.Core.Path.{refl}
 use mathlib.Core.List.{[], ◌∷◌, ◌++◌}
 use lib.ListN.{length-append}
 use Rattle.answer.specs.Line.{newline}
@@ -16,6 +17,6 @@ unfolding told_as
 returns c =
     let ws = spelt c.args.words in record {
       put = put_over (spoken c.args.number c.args.answer) (ws ++ (newline ∷ [])) newline (omega (arith, length-append ws (newline ∷ [])))
-          (line_put c.requires c.put_line-behind.ensures) (put_then c.put_words-last.ensures.put c.put_byte.ensures);
-      upper_bound = omega (arith, c.put_byte.ensures.next, c.put_line-behind.ensures.short);
+          (line_put c.requires c.put_line-behind.ensures) (put_then c.put_words-last.ensures.put (record { next = refl; bytes = refl }));
+      upper_bound = omega (arith, c.put_line-behind.ensures.short);
     }

@@ -1,21 +1,16 @@
-use Rattle.std.proofs.Common.{◌∙◌, arith, rules}
-use Rattle.attributes.proofs.Totals.{begins, turned, over, ends}
-use borrow.Author.Rules.{rules}
+use Rattle.std.proofs.Common.{arith}
+use Rattle.attributes.proofs.Totals.{turned, over, ends}
 use Rattle.attributes.proofs.octets.carried.Goals as goal
 
-pub loop-i-init : goal.loop-i-init
-loop-i-init c = begins _ _ _ (search rules)
+pub returns-then-total-more : goal.returns-then-total-more
+returns-then-total-more c =
+    over _ _ _ _ _ _ c.loop-reading.invariant c.loop-reading-test.true
+    (omega (arith, c.loop-reading.invariant.low, c.if-total-more.true, c.from-more.ensures, c.difference.ensures))
 
-pub returns-then-room-more : goal.returns-then-room-more
-returns-then-room-more c =
-    over _ _ _ _ _ _ c.loop-i.invariant c.loop-i-test.true _ (c.wide-more.ensures ∙ c.difference.ensures) c.if-room-more.true
-
-pub loop-i-preserved : goal.loop-i-preserved
-loop-i-preserved c =
-    turned _ _ _ _ _ _ c.loop-i.invariant c.loop-i-test.true _ (c.wide-more.ensures ∙ c.difference.ensures) c.if-room-more.false
-
-pub overflow_sub-result : goal.overflow_sub-result
-overflow_sub-result c = omega (arith, c.loop-i.invariant.low)
+pub loop-reading-preserved : goal.loop-reading-preserved
+loop-reading-preserved c =
+    turned _ _ _ _ _ _ c.loop-reading.invariant c.loop-reading-test.true _ (omega arith)
+    (omega (arith, c.loop-reading.invariant.low, c.if-total-more.false, c.from-more.ensures, c.difference.ensures))
 
 pub returns : goal.returns
-returns c = ends _ _ _ _ _ _ c.loop-i.invariant (omega (arith, c.loop-i-test.false))
+returns c = ends _ _ _ _ _ _ c.loop-reading.invariant c.loop-reading-test.false

@@ -5,4 +5,4 @@ pub returns-then-answers-i : goal.returns-then-answers-i
 returns-then-answers-i c = laid_out _ _ _ c.if-answers-i.true
 
 pub returns : goal.returns
-returns c = laid_in _ _ _ c.tell-told.result c.tell-told.ensures c.if-answers-i.false
+returns c = laid_in _ _ _ c.from-told.result c.from-told.ensures c.if-answers-i.false

@@ -1,14 +1,16 @@
 use native.Mathlib.Omega.{arith}
-use Rattle.store.proofs.VisitLaws.{place_low, found_made, none_made}
+use mathlib.Core.Path.{◌≡◌, ◌∙◌}
+use Rattle.std.proofs.Common.{rules}
+use Rattle.port.specs.Port.{no_port}
+use Rattle.store.proofs.VisitLaws.{found_made, none_made}
 use Rattle.store.proofs.Ports.find.Goals as goal
 
-pub row_at-row-requires : goal.row_at-row-requires
-row_at-row-requires c = let h = place_low _ c.args.i _ c.is_place.ensures.0 c.is_place.ensures.1 c.if-is_place.true in omega arith
-
-pub returns-then-is_place : goal.returns-then-is_place
-returns-then-is_place c =
-    found_made c.args.self _ _ _ _ _ _ _ c.is_place.ensures.0 c.if-is_place.true c.row_at-row.ensures
-    c.contains.ensures c.contains-then-is_place.ensures c.contains-then-is_place-2.ensures c.contains-then-is_place-3.ensures
+pub returns-then-i-ge-COUNT : goal.returns-then-i-ge-COUNT
+returns-then-i-ge-COUNT c =
+    let e : c.default.result ≡ no_port = search rules in
+    e ∙ none_made c.args.self (omega arith) c.args.i (omega arith)
 
 pub returns : goal.returns
-returns c = none_made c.args.self _ _ c.is_place.ensures.0 c.if-is_place.false
+returns c =
+    found_made c.args.self (omega arith) c.args.i _ _ _ _ (omega arith)
+    c.contains.ensures c.contains-2.ensures c.contains-3.ensures c.contains-4.ensures

@@ -1,7 +1,10 @@
+use native.Mathlib.Omega.{arith}
 use mathlib.Core.Path.{refl}
 use Rattle.port.specs.declared.Port.{Port}
-use Rattle.store.proofs.VisitLaws.{set_in, standing_partitioned}
+use Rattle.store.proofs.DoorLaws.{standing}
+use Rattle.store.proofs.VisitLaws.{set_in}
 use Rattle.store.proofs.Ports.partitioned.Goals as goal
 
 pub returns : goal.returns
-returns c = set_in c.args.self _ (λ (p : Port). p.partitioned) _ refl (λ i. standing_partitioned c.args.self i) c.nine.ensures
+unfolding standing
+returns c = set_in c.args.self (omega arith) _ (λ (p : Port). p.partitioned) refl (λ i. refl)

@@ -1,6 +1,0 @@
-use Rattle.access.specs.Access.{obeyed}
-use Rattle.access.proofs.obey_set.Goals as goal
-
-pub returns : goal.returns
-unfolding obeyed
-returns c = rw (c.move_to-out.ensures, c.set.ensures)

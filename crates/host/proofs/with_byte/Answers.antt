@@ -1,7 +1,0 @@
-use mathlib.Core.Path.{sym}
-use lib.Seq.{set_out}
-use native.Mathlib.Omega.{arith}
-use Rattle.host.proofs.with_byte.Goals as goal
-
-pub returns : goal.returns
-returns c = sym (set_out _ _ _ (omega arith))

@@ -1,0 +1,2 @@
+-- The chip that a program begins with.
+pub mod Opening

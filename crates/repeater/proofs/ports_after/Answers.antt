@@ -1,8 +1,0 @@
-use Rattle.repeater.proofs.MeetingLaws.{after_made}
-use Rattle.repeater.proofs.ports_after.Goals as goal
-
-pub returns : goal.returns
-returns c =
-    let a = c.args in
-    after_made a.for_aui a.for_tp a.hearing a.effect a.activity _ _ _ _ c.lasting-lasting.ensures c.reconnecting-back_aui.ensures
-    c.reconnecting-back_tp.ensures c.algorithms-back.ensures _ _ _ c.meet-met.ensures c.revive.ensures

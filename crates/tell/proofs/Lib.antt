@@ -1,0 +1,2 @@
+-- The sizes of the program's buffers.
+mod Sizes

@@ -1,8 +1,0 @@
-use native.Mathlib.Omega.{arith}
-use Rattle.telling.proofs.push.Goals as goal
-
-pub returns-then-b : goal.returns-then-b
-returns-then-b c = simp c.if-b.true
-
-pub returns-else-b : goal.returns-else-b
-returns-else-b c = simp c.if-b.false (omega arith)
