@@ -99,6 +99,7 @@ fn run_from(rt: &HostRuntime, chip: FlatChip) {
     pump(&mut input, &mut output, first, &mut buf, &mut out);
 }
 
+// tell has a main of this shape: its name, its words and its buffers are its own, and a function of both would be given all of them.
 fn main(rt: HostRuntime) {
     if is_given(rt.arg(2, &mut [])) {
         let _ = eprintln!(rt; "run: at most one argument, the name of a start file");

@@ -29,7 +29,8 @@ fn refusal(answer: Answer) -> u64
 }
 
 // Takes every record of the input, one after the other; what is left at its end, if it is no whole record, is a record too, and is turned away. The counters
-// and addresses are lent to each record in turn, and never copied.
+// and addresses are lent to each record in turn, and never copied. Chip and host's record are two parameters, and what a record asks for and its source two more
+// below, as the contracts of himib's functions name them.
 pub fn take_all(chip: FlatChip, h: Host, input: &[u8]) -> Tallied
     ensures { came_to result ≡ tally_of (standing chip h) input.now }
 {

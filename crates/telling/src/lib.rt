@@ -94,11 +94,7 @@ fn status_of(core: Core) -> u16
     ensures { result ≡ status_of core }
 {
     let interrupt = u16::from(changes::bit_7(changes::is_pending(core.changes, core.enables)));
-    if core.interface_error {
-        interrupt + 64
-    } else {
-        interrupt
-    }
+    interrupt + 64 * u16::from(core.interface_error)
 }
 
 // The ports whose counter R has moved.
