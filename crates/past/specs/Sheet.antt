@@ -389,6 +389,7 @@ credits =
     ∷ holds (up ++ frame) 16 12 1
     ∷ holds (up ++ frame ++ frame) 16 12 1
     ∷ holds (up ++ (burst tp0 0 600 64 ∷ [])) 16 12 0
+    ∷ holds (up ++ (burst_record tp0 mistimed 600 64 0 0 0 someone ∷ [])) 16 12 1
     -- the two totals, and what a reset leaves
     ∷ holds (up ++ (clash both 0 600 0 0 ∷ [])) 0 12 1
     ∷ holds (clash aui_port signal 600 0 0 ∷ []) 0 12 0

@@ -22,7 +22,7 @@ use Rattle.himib.specs.declared.Stepped.{Stepped}
 use Rattle.himib.specs.Flat.{stepped_by}
 use Rattle.himib.proofs.Computing.{computing}
 use Rattle.start.specs.declared.Started.{Started}
-use Rattle.ties.specs.Flat.{OneFlat, OneChip, OneLeft, OneStart, OneReaddress, OneCredit, OneBurst, OneFollow}
+use Rattle.ties.specs.Flat.{OneFlat, OneChip, OneLeft, OneStart, OneReaddress, OneCredit, OneBurst, OneFollow, OneAddress}
 
 -- INSTANCES
 
@@ -109,3 +109,6 @@ one_follow c h asked source flat r s x y f p q =
       ap (λ (t : Stepped). record { core = t.chip.core; host = t.host; answer = t.answer }) w,
       one_flat _ x y (p.fine f) (q.fine f) (ap (λ (t : Stepped). t.chip.attributes) w) refl,
     )
+
+pub one_address : OneAddress
+one_address port source flat x y f p q = one_flat _ x y (p.fine f) (q.fine f) (p.is f) (q.is f)

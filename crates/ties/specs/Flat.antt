@@ -2,9 +2,9 @@
 -- equal, arrays and all. What is lent or given back by value has as many places as its type says.
 --   OneFlat      == `zero` and `with_port` of attributes; OneChip == `power_up` of chip; OneLeft == `take` and `step` of himib; OneStart == `start_chip` of start
 --   OneReaddress, OneCredit == `readdress` and `credit` of attributes, over the Flat that they are lent
---   OneBurst, OneFollow     == `burst` and `follow` of himib, likewise
+--   OneBurst, OneFollow     == `burst` and `follow` of himib, likewise; OneAddress == `write_address` of himib
 -- Assumes nothing.
-use Rattle.std.specs.Prelude.{ℕ, ◌≡◌, List, length}
+use Rattle.std.specs.Prelude.{ℕ, ◌≡◌, List, Option, length}
 use Rattle.record.specs.declared.Burst.{Burst}
 use Rattle.record.specs.declared.Asked.{Asked}
 use Rattle.host.specs.declared.Host.{Host}
@@ -21,7 +21,7 @@ use Rattle.himib.specs.declared.Spoken.{Spoken}
 use Rattle.himib.specs.declared.Followed.{Followed}
 use Rattle.himib.specs.declared.Left.{Left}
 use Rattle.himib.specs.declared.Stepped.{Stepped}
-use Rattle.himib.specs.Flat.{stepped_by, Bursts, Follows}
+use Rattle.himib.specs.Flat.{stepped_by, Bursts, Addressed, Follows}
 use Rattle.start.specs.declared.Opened.{Opened}
 use Rattle.start.specs.declared.Started.{Started}
 use Rattle.start.specs.Flat.{started_by}
@@ -56,3 +56,7 @@ abbrev pub OneFollow : Type 0
 OneFollow =
     (c : Core) (h : Host) (asked : Asked) (source : List ℕ) (flat : Flat) (r s : Followed) (x y : Flat) → Fit flat → Follows c h asked source flat r x
     → Follows c h asked source flat s y → (r ≡ s) × (x ≡ y)
+
+abbrev pub OneAddress : Type 0
+OneAddress =
+    (port : Option ℕ) (source : List ℕ) (flat x y : Flat) → Fit flat → Addressed port source flat x → Addressed port source flat y → x ≡ y
