@@ -5,7 +5,7 @@
 --   counter_stored, address_stored        == a store at a place is a store of that counter in that record, and leaves all others; likewise of an address
 --   stored_at, spot_stored, fine_stored   == the same place by place, and that counters still fit
 --   port_stored                           == the same of all that is kept of a port; .. -unstored == past the last port nothing is stored
---   readdress_any                         == an address written, beside any counters
+--   readdress_beside, readdress_any       == an address written, in a Flat and beside any counters
 --   stretch_ports, stretch_none           == a stretch is one register over the nine ports, and nothing past the last register
 use Rattle.std.proofs.lemmas.List.{drop_min, take_min, length-take}
 use Rattle.std.proofs.Common.{◌≡◌, ℕ, zero, suc, ◌+◌, ◌-◌, ◌*◌, ◌/◌, ◌%◌, ◌^◌, ◌<◌, ◌≤◌, Bool, true, false, cond, ◌&&◌, eqb, ltb, List, [], ◌∷◌, length, get_or, take, drop, set, replicate, min, sym, refl, ap, ◌∙◌, ap₂, arith, length-drop, length-set, get_or-set_other, get_or-set_same, ltb-false, ltb-true, le-ltb, lt-ltb, eq-eqb, ne_eqb, eqb-true}
@@ -17,7 +17,7 @@ use Rattle.attributes.specs.declared.Attributes.{Attributes}
 use Rattle.attributes.specs.declared.Nine.{Nine}
 use Rattle.attributes.specs.declared.Flat.{Flat}
 use Rattle.attributes.specs.Nine.{counter_count, no_attributes, port_of, counter_of, address_of, with_port, with_address, readdressed, Proper}
-use Rattle.attributes.specs.Flat.{place, flat_size, spot, spots_size, listed, record_at, nine_of, nine_in, flat_of, spots_of, stretch_of, Counters, Six, Readdressed, FlatBack, NineBack, StoreIsOne, StretchIsOne}
+use Rattle.attributes.specs.Flat.{place, flat_size, spot, spots_size, listed, record_at, nine_of, nine_in, flat_of, spots_of, stretch_of, Counters, Six, ReaddressedAlone, Readdressed, FlatBack, NineBack, StoreIsOne, StretchIsOne}
 use Rattle.attributes.specs.Counts.{Written, Laid}
 use Rattle.attributes.proofs.FlatSheet.{bursts_kept}
 use Rattle.attributes.proofs.Listed.{listed_length, listed_at, listed_same, listed_all, listed_part, set_listed}
@@ -234,20 +234,18 @@ counter_stored flat addresses r i v e h l =
         ∙ sym (set_listed counter_count (λ q. get_or flat (place q i) 0) r v)))
 
 -- of addresses
-pub address_stored : (i : ℕ) (source : List ℕ) (flat last : Flat) → length source ≡ 6 → length flat.addresses ≡ spots_size → Written i source flat last
-    → nine_in last ≡ readdressed i source (nine_in flat)
+pub address_stored : (i : ℕ) (source flat addresses last : List ℕ) → length source ≡ 6 → length addresses ≡ spots_size → Written i source addresses last
+    → nine_of flat last ≡ readdressed i source (nine_of flat addresses)
 unfolding readdressed record_at
-address_stored i source flat last n e w =
-    nine_put flat.counters flat.addresses last.counters last.addresses i _ here
-    (λ k m o.
-    record_same flat.counters flat.addresses last.counters last.addresses k (λ r p. ap (λ (l : List ℕ). get_or l (place r k) 0) w.counters)
-    (λ j p. w.is e k j m p ∙ rw (ne_eqb k i o)))
+address_stored i source flat addresses last n e w =
+    nine_put flat addresses flat last i _ here
+    (λ k m o. record_same flat addresses flat last k (λ r p. refl) (λ j p. w.is e k j m p ∙ rw (ne_eqb k i o)))
   where
-    here : i < port_count → record_at last.counters last.addresses i ≡ with_address (port_of (nine_in flat) i) source
+    here : i < port_count → record_at flat last i ≡ with_address (port_of (nine_of flat addresses) i) source
     here l =
-        rw (w.counters, port_held flat.counters flat.addresses i l)
-        (ap (λ (x : List ℕ). record { counters = listed counter_count (λ r. get_or flat.counters (place r i) 0); address = x })
-        (listed_same 6 (λ j. get_or last.addresses (spot i j) 0) (λ j. get_or source j 0) (λ j p. w.is e i j l p ∙ rw (eq-eqb i i refl)) ∙ listed_all 6 source 0 n))
+        rw (port_held flat addresses i l)
+        (ap (λ (x : List ℕ). record { counters = listed counter_count (λ r. get_or flat (place r i) 0); address = x })
+        (listed_same 6 (λ j. get_or last (spot i j) 0) (λ j. get_or source j 0) (λ j p. w.is e i j l p ∙ rw (eq-eqb i i refl)) ∙ listed_all 6 source 0 n))
 
 -- past the last port
 pub address_unstored : (i : ℕ) (source flat addresses : List ℕ) → port_count ≤ i → nine_of flat addresses ≡ readdressed i source (nine_of flat addresses)
@@ -255,20 +253,17 @@ unfolding readdressed
 address_unstored i source flat addresses h = nine_put flat addresses flat addresses i _ (λ l. absurd (omega arith)) (λ k m n. refl)
 
 -- of all that is kept of a port
-pub port_stored : (i : ℕ) (numbers source : List ℕ) (flat later last : Flat) → length numbers ≡ counter_count → length source ≡ 6
-    → length flat.counters ≡ flat_size → length flat.addresses ≡ spots_size → Laid i numbers flat later → Written i source later last
-    → nine_in last ≡ with_port (nine_in flat) i (record { counters = numbers; address = source })
-port_stored i numbers source flat later last m n e f laid w =
-    rw w.counters
-    (nine_put flat.counters flat.addresses later.counters last.addresses i _
+pub port_stored : (i : ℕ) (numbers source last : List ℕ) (flat later : Flat) → length numbers ≡ counter_count → length source ≡ 6
+    → length flat.counters ≡ flat_size → length flat.addresses ≡ spots_size → Laid i numbers flat later → Written i source later.addresses last
+    → nine_of later.counters last ≡ with_port (nine_in flat) i (record { counters = numbers; address = source })
+port_stored i numbers source last flat later m n e f laid w =
+    nine_put flat.counters flat.addresses later.counters last i _
     (λ l.
-    record_is later.counters last.addresses i numbers source m n (λ r p. laid.is e r i p l ∙ rw (eq-eqb i i refl)) (λ j p. byte i j l p ∙ rw (eq-eqb i i refl)))
+    record_is later.counters last i numbers source m n (λ r p. laid.is e r i p l ∙ rw (eq-eqb i i refl)) (λ j p. byte i j l p ∙ rw (eq-eqb i i refl)))
     (λ k o d.
-    record_same flat.counters flat.addresses later.counters last.addresses k (λ r p. laid.is e r k p o ∙ rw (ne_eqb k i d))
-    (λ j p. byte k j o p ∙ rw (ne_eqb k i d))))
+    record_same flat.counters flat.addresses later.counters last k (λ r p. laid.is e r k p o ∙ rw (ne_eqb k i d)) (λ j p. byte k j o p ∙ rw (ne_eqb k i d)))
   where
-    byte : (k j : ℕ) → k < port_count → j < 6
-        → get_or last.addresses (spot k j) 0 ≡ cond (eqb k i) (get_or source j 0) (get_or flat.addresses (spot k j) 0)
+    byte : (k j : ℕ) → k < port_count → j < 6 → get_or last (spot k j) 0 ≡ cond (eqb k i) (get_or source j 0) (get_or flat.addresses (spot k j) 0)
     byte k j o p =
         w.is (ap (λ (l : List ℕ). length l) laid.addresses ∙ f) k j o p
         ∙ ap (λ (l : List ℕ). cond (eqb k i) (get_or source j 0) (get_or l (spot k j) 0)) laid.addresses
@@ -321,13 +316,18 @@ stretch_cut flat r from to h e f =
 
 -- AN ADDRESS WRITE, AS THE CODE MAKES IT
 
-pub readdress_made : (i : ℕ) (source : List ℕ) (flat last : Flat) → length source ≡ 6 → Written i source flat last → Readdressed i source flat last
-readdress_made i source flat last n w = record { counters = w.counters; fine = w.fine; is = λ e. address_stored i source flat last n e w }
+pub readdress_made : (i : ℕ) (source addresses last : List ℕ) → length source ≡ 6 → Written i source addresses last → ReaddressedAlone i source addresses last
+readdress_made i source addresses last n w = record { fine = w.fine; is = λ e flat. address_stored i source flat addresses last n e w }
 
-pub readdress_none : (i : ℕ) (source : List ℕ) (flat : Flat) → port_count ≤ i → Readdressed i source flat flat
-readdress_none i source flat h = record { counters = refl; fine = refl; is = λ e. address_unstored i source flat.counters flat.addresses h }
+pub readdress_none : (i : ℕ) (source addresses : List ℕ) → port_count ≤ i → ReaddressedAlone i source addresses addresses
+readdress_none i source addresses h = record { fine = refl; is = λ e flat. address_unstored i source flat addresses h }
 
--- the same beside any counters: what the addresses stand for does not depend on them
+-- and of a Flat: its counters are as they were
+pub readdress_beside : (i : ℕ) (source last : List ℕ) (flat : Flat) → ReaddressedAlone i source flat.addresses last
+    → Readdressed i source flat (record { counters = flat.counters; addresses = last })
+readdress_beside i source last flat a = record { counters = refl; fine = a.fine; is = λ e. a.is e flat.counters }
+
+-- what was written to a Flat, beside any counters: what the addresses stand for does not depend on them
 pub readdress_any : (i : ℕ) (source : List ℕ) (flat last : Flat) → length flat.addresses ≡ spots_size → Readdressed i source flat last → (counters : List ℕ)
     → nine_of counters last.addresses ≡ readdressed i source (nine_of counters flat.addresses)
 unfolding readdressed with_port record_at address_of port_of

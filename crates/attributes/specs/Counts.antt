@@ -1,7 +1,7 @@
--- No section of document 01: what the functions beneath `credit` and `with_port` do to the Flat that they are lent. Everything is said by register and port.
+-- No section of document 01: what the functions beneath `credit` and `with_port` do to what they are lent. Everything is said by register and port.
 --   counted_for due burst r i == what counter R of port i gets of what is due
 --   framed_port due           == the port that a readable frame gives its source address to, or none
---   Written i source ..      == port i's six bytes are source, and all else as it was
+--   Written i source ..      == port i's six bytes are source, and all others as they were
 --   Laid i numbers ..        == port i's thirteen counters are numbers, and all else as it was
 -- Assumes nothing.
 use Rattle.std.specs.Prelude.{◌≡◌, ℕ, ◌<◌, Option, Some, None, cond, ◌&&◌, ◌||◌, List, length, ◌==◌, slice_index}
@@ -24,11 +24,10 @@ framed_of due None = None
 unfoldable pub framed_port : Due → Option ℕ
 framed_port due = framed_of due due.single
 
-pub record Written (i : ℕ) (source : List ℕ) (flat later : Flat) : Type 0 where
-  pub counters : later.counters ≡ flat.counters
-  pub fine : length later.addresses ≡ length flat.addresses
-  pub is : length flat.addresses ≡ spots_size → (k j : ℕ) → k < port_count → j < 6
-      → slice_index later.addresses (spot k j) ≡ cond (k == i) (slice_index source j) (slice_index flat.addresses (spot k j))
+pub record Written (i : ℕ) (source addresses last : List ℕ) : Type 0 where
+  pub fine : length last ≡ length addresses
+  pub is : length addresses ≡ spots_size → (k j : ℕ) → k < port_count → j < 6
+      → slice_index last (spot k j) ≡ cond (k == i) (slice_index source j) (slice_index addresses (spot k j))
 
 pub record Laid (i : ℕ) (numbers : List ℕ) (flat later : Flat) : Type 0 where
   pub addresses : later.addresses ≡ flat.addresses

@@ -8,6 +8,7 @@
 --   Fit flat                 == what the type of the two arrays says of them: a proof is not told it of a Flat that is lent
 --   Six nine                 == addresses have six bytes
 --   Counting f flat later    == counter R of port i has got f r i, and the addresses are as they were
+--   ReaddressedAlone         == what `readdress` does to addresses that it is lent alone, beside any counters
 --   Credited, Readdressed    == what `credit` and `readdress` do to the Flat that they are lent
 --   FlatBack, NineBack       == one to one: from the arrays to the records and back, and the other way
 --   StoreIsOne               == a store at the place of a counter is a store of that counter in that record, and leaves all others
@@ -85,6 +86,10 @@ pub record Counting (f : ℕ → ℕ → ℕ) (flat later : Flat) : Type 0 where
   pub fine : Counters flat.counters → Counters later.counters
   pub is : Counters flat.counters → (r i : ℕ) → r < counter_count → i < port_count
       → slice_index later.counters (place r i) ≡ (slice_index flat.counters (place r i) + f r i) % 2 ^ 32
+
+pub record ReaddressedAlone (i : ℕ) (source addresses last : List ℕ) : Type 0 where
+  pub fine : length last ≡ length addresses
+  pub is : length addresses ≡ spots_size → (flat : List ℕ) → nine_of flat last ≡ readdressed i source (nine_of flat addresses)
 
 pub record Readdressed (i : ℕ) (source : List ℕ) (flat later : Flat) : Type 0 where
   pub counters : later.counters ≡ flat.counters

@@ -2,12 +2,12 @@
 // kept; no crate above knows a counter's place. A burst and an address write store what they change in the Flat that they are lent.
 #![tactic(auto)]
 
-ghost use Rattle.std.specs.Prelude.{◌≡◌, ◌<◌, ◌&&◌, if◌then◌else◌, nat_eq};
+ghost use Rattle.std.specs.Prelude.{◌≡◌, ◌<◌, ◌&&◌, [], if◌then◌else◌, nat_eq};
 ghost use Rattle.ports.specs.Sets.{port_count, is_at, has, set_of};
 ghost use Rattle.attributes.specs.Nine.{counter_count, nothing_counted, counter_of, address_of, with_port};
 ghost use Rattle.attributes.specs.Credits.{class_of, class_port, framed, changed_by, due_of};
 ghost use Rattle.attributes.specs.OneClass.{Among, classes};
-ghost use Rattle.attributes.specs.Flat.{place, nine_in, stretch_of, Counting, Readdressed, Credited};
+ghost use Rattle.attributes.specs.Flat.{place, nine_of, nine_in, stretch_of, Counting, ReaddressedAlone, Readdressed, Credited};
 ghost use Rattle.attributes.specs.Counts.{counted_for, framed_port, Written, Laid};
 
 use burst::Activity;
@@ -169,6 +169,17 @@ fn place(register: usize, i: usize) -> usize
     ports::COUNT * register + i
 }
 
+// A counter of port i, or 0 where there is none. It, `address` and `readdress` are for who has one array alone; the methods of Flat call them.
+pub fn counter(counters: &[u32; Flat::COUNTERS], i: usize, register: usize) -> u32
+    ensures { result ≡ counter_of (nine_of counters.now []) i register }
+{
+    if i < ports::COUNT && register < Attributes::COUNT {
+        counters[place(register, i)]
+    } else {
+        0
+    }
+}
+
 // One register over the nine ports, as it stands among the counters: nothing past the last register, and of a short slice what there is. No method of Flat:
 // stretch_of, and read_there of FlatSheet, are about counters of any length.
 pub fn attribute(counters: &[u32], register: usize) -> &[u32]
@@ -180,6 +191,36 @@ pub fn attribute(counters: &[u32], register: usize) -> &[u32]
         &counters[from..to]
     } else {
         &counters[..0]
+    }
+}
+
+// Port i's last source address, or zeros past the last port.
+pub fn address(addresses: &[u8; Flat::ADDRESSES], i: usize) -> [u8; 6]
+    ensures { result ≡ address_of (nine_of [] addresses.now) i }
+{
+    let mut source = [0; 6];
+    if i < ports::COUNT {
+        let at = 6 * i;
+        source.copy_from_slice(&addresses[at..at + 6]);
+    }
+    source
+}
+
+// Port i's six bytes written.
+fn write_address(addresses: &mut [u8; Flat::ADDRESSES], i: usize, source: [u8; 6])
+    requires { i < port_count }
+    ensures { Written i source addresses.old addresses.new }
+{
+    let at = 6 * i;
+    addresses[at..at + 6].copy_from_slice(&source);
+}
+
+// Port i's address written anew; past the last port nothing changes.
+pub fn readdress(addresses: &mut [u8; Flat::ADDRESSES], i: usize, source: [u8; 6])
+    ensures { ReaddressedAlone i source addresses.old addresses.new }
+{
+    if i < ports::COUNT {
+        write_address(addresses, i, source);
     }
 }
 
@@ -235,7 +276,7 @@ impl Flat {
     {
         if i < ports::COUNT {
             self.lay(i, port.counters);
-            self.write_address(i, port.address);
+            write_address(&mut self.addresses, i, port.address);
         }
         self
     }
@@ -244,23 +285,14 @@ impl Flat {
     pub fn counter(&self, i: usize, register: usize) -> u32
         ensures { result ≡ counter_of (nine_in self.now) i register }
     {
-        if i < ports::COUNT && register < Attributes::COUNT {
-            self.counters[place(register, i)]
-        } else {
-            0
-        }
+        counter(&self.counters, i, register)
     }
 
     // Port i's last source address, or zeros past the last port.
     pub fn address(&self, i: usize) -> [u8; 6]
         ensures { result ≡ address_of (nine_in self.now) i }
     {
-        let mut source = [0; 6];
-        if i < ports::COUNT {
-            let at = 6 * i;
-            source.copy_from_slice(&self.addresses[at..at + 6]);
-        }
-        source
+        address(&self.addresses, i)
     }
 
     // A port's thirteen counters laid at their places.
@@ -273,22 +305,11 @@ impl Flat {
         }
     }
 
-    // Port i's six bytes written.
-    fn write_address(&mut self, i: usize, source: [u8; 6])
-        requires { i < port_count }
-        ensures { Written i source self.old self.new }
-    {
-        let at = 6 * i;
-        self.addresses[at..at + 6].copy_from_slice(&source);
-    }
-
     // Port i's address written anew; past the last port nothing changes.
     pub fn readdress(&mut self, i: usize, source: [u8; 6])
         ensures { Readdressed i source self.old self.new }
     {
-        if i < ports::COUNT {
-            self.write_address(i, source);
-        }
+        readdress(&mut self.addresses, i, source);
     }
 
     // n more in a register, at each port of the mask, the lowest first: most masks have one port or none.
@@ -372,7 +393,7 @@ impl Flat {
         let due = self.due_of(met, burst, source);
         self.count(due, burst);
         if let Some(port) = due.framed_port() {
-            self.readdress(port, source);
+            readdress(&mut self.addresses, port, source);
         }
         due
     }

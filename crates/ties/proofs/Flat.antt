@@ -1,6 +1,6 @@
 -- One outcome each, of the functions that speak of counters and addresses as they are kept. Assumes nothing.
 --   full_fits        == arrays that fit their type are there: every counter full, and no address known
---   an_address_write == what the contract of an address write allows is there, at AUI; no_neighbour == and TP7's bytes for AUI's are not
+--   an_address_write == what the contract of an address write allows is there, at AUI; no_neighbour == and TP7's bytes for AUI's are not; .. _alone == likewise of addresses that are lent alone
 use Prim.Native.Nat.{ℕ, zero, suc, ◌^◌, ◌<◌}
 use mathlib.Core.Path.{◌≡◌, refl, sym, ap, ap₂, ◌∙◌}
 use mathlib.Core.List.{List, [], ◌∷◌}
@@ -12,7 +12,7 @@ use Rattle.attributes.specs.declared.Due.{Due}
 use Rattle.attributes.specs.declared.Flat.{Flat}
 use Rattle.attributes.specs.Nine.{address_of}
 use Rattle.attributes.specs.Credits.{credited_all}
-use Rattle.attributes.specs.Flat.{flat_size, spots_size, spots_of, nine_in, Fit, Readdressed}
+use Rattle.attributes.specs.Flat.{flat_size, spots_size, spots_of, nine_in, Fit, ReaddressedAlone, Readdressed}
 use Rattle.attributes.proofs.FlatLaws.{nine_one, spots_back}
 use Rattle.chip.specs.declared.FlatChip.{FlatChip}
 use Rattle.chip.specs.declared.Powered.{Powered}
@@ -22,7 +22,7 @@ use Rattle.himib.specs.declared.Stepped.{Stepped}
 use Rattle.himib.specs.Flat.{stepped_by}
 use Rattle.himib.proofs.Computing.{computing}
 use Rattle.start.specs.declared.Started.{Started}
-use Rattle.ties.specs.Flat.{OneFlat, OneChip, OneLeft, OneStart, OneReaddress, OneCredit, OneBurst, OneFollow, OneAddress}
+use Rattle.ties.specs.Flat.{OneFlat, OneChip, OneLeft, OneStart, OneReaddressAlone, OneReaddress, OneCredit, OneBurst, OneFollow, OneAddress}
 
 -- INSTANCES
 
@@ -60,6 +60,16 @@ no_neighbour w =
     let k : ◌≡◌ {A = ℕ} 0 2 = ap (λ (nine : Nine). get_or (address_of nine 8) 0 0) (w.is refl) in
     absurd (omega (arith, k))
 
+an_address_alone : ReaddressedAlone 8 source unknown (set (set (set (set (set (set unknown 48 2) 49 7) 50 6) 51 5) 52 4) 53 3)
+unfolding computing each
+an_address_alone = record { fine = refl; is = λ e flat. refl }
+
+no_neighbour_alone : ReaddressedAlone 8 source unknown (set (set (set (set (set (set unknown 42 2) 43 7) 44 6) 45 5) 46 4) 47 3) → ⊥
+unfolding computing each
+no_neighbour_alone w =
+    let k : ◌≡◌ {A = ℕ} 0 2 = ap (λ (nine : Nine). get_or (address_of nine 8) 0 0) (w.is refl full) in
+    absurd (omega (arith, k))
+
 -- THE THEOREMS
 
 -- two that fit and stand for the same records
@@ -83,6 +93,10 @@ pub one_start : OneStart
 one_start t r s a b p q =
     ap₂ (λ (c : FlatChip) (w : Started). record { fits = w.fits; limit = w.limit; number = w.number; chip = c })
     (chip_one r.chip s.chip a b (ap (λ (w : Started). w.chip) (p ∙ sym q))) (p ∙ sym q)
+
+pub one_readdress_alone : OneReaddressAlone
+one_readdress_alone i source addresses x y e p q =
+    (nine_one (replicate 117 0) x (replicate 117 0) y refl refl (p.fine ∙ e) (q.fine ∙ e) (p.is e (replicate 117 0) ∙ sym (q.is e (replicate 117 0)))).1
 
 -- whatever the counters are, how long they are too
 pub one_readdress : OneReaddress

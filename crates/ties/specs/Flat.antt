@@ -1,6 +1,7 @@
 -- Document 01, 'What each statement must settle', of the functions that speak of counters and addresses as they are kept: any pair of outcomes that a contract allows is
 -- equal, arrays and all. What is lent or given back by value has as many places as its type says.
 --   OneFlat      == `zero` and `with_port` of attributes; OneChip == `power_up` of chip; OneLeft == `take` and `step` of himib; OneStart == `start_chip` of start
+--   OneReaddressAlone       == `readdress` of attributes, over the addresses that it is lent alone
 --   OneReaddress, OneCredit == `readdress` and `credit` of attributes, over the Flat that they are lent
 --   OneBurst, OneFollow     == `burst` and `follow` of himib, likewise; OneAddress == `write_address` of himib
 -- Assumes nothing.
@@ -12,7 +13,7 @@ use Rattle.attributes.specs.declared.Flat.{Flat}
 use Rattle.attributes.specs.declared.Nine.{Nine}
 use Rattle.attributes.specs.declared.Met.{Met}
 use Rattle.attributes.specs.declared.Due.{Due}
-use Rattle.attributes.specs.Flat.{spots_size, nine_in, Fit, Readdressed, Credited}
+use Rattle.attributes.specs.Flat.{spots_size, nine_in, Fit, ReaddressedAlone, Readdressed, Credited}
 use Rattle.chip.specs.declared.Core.{Core}
 use Rattle.chip.specs.declared.Powered.{Powered}
 use Rattle.chip.specs.declared.FlatPowered.{FlatPowered}
@@ -37,6 +38,10 @@ OneLeft = (t : Stepped) (r s : Left) → Sized r.chip → Sized s.chip → stepp
 
 abbrev pub OneStart : Type 0
 OneStart = (t : Started) (r s : Opened) → Sized r.chip → Sized s.chip → started_by r ≡ t → started_by s ≡ t → r ≡ s
+
+abbrev pub OneReaddressAlone : Type 0
+OneReaddressAlone =
+    (i : ℕ) (source addresses x y : List ℕ) → length addresses ≡ spots_size → ReaddressedAlone i source addresses x → ReaddressedAlone i source addresses y → x ≡ y
 
 abbrev pub OneReaddress : Type 0
 OneReaddress =
