@@ -619,15 +619,10 @@ rule('too_large_forgotten', 'Many readings', 'A sum that did not fit never fits 
            'octets', 'carried(sum?, last, readings)', 'carried(sum.unwrap_or(0), last, readings)'))
 rule('readings_most_significant_first', 'Many readings', 'The first byte of a reading is the least significant.', 'the most significant',
      *both('chain', 'Chain', 'spelt (a ∷ b ∷ c ∷ d ∷ []) ∷ readings_in rest', 'spelt (d ∷ c ∷ b ∷ a ∷ []) ∷ readings_in rest',
-           'lib', 'four(reading[0], reading[1], reading[2], reading[3])', 'four(reading[3], reading[2], reading[1], reading[0])'))
+           'lib', 'four(bytes[0], bytes[1], bytes[2], bytes[3])', 'four(bytes[3], bytes[2], bytes[1], bytes[0])'))
 rule('stretches_apart', 'Many readings', 'The first reading of a stretch follows the last of the one before.', 'each stretch is a row of its own',
      *both('chain', 'Chain', '(Some last) rs = total_on total last rs', '(Some last) rs = total_on total (Rattle.std.specs.Prelude.get_or rs 0 last) rs',
-           'lib', 'Some(last) => octets::further(self.total, last, reading),', 'Some(_) => octets::further(self.total, reading, reading),'),
-     ('chain/src/lib.rt', 'let mut so_far = chain;', 'let mut so_far = chain;\n    let mut begun = false;'),
-     ('chain/src/lib.rt', 'so_far = so_far.followed_by(spelling::four(reading[0], reading[1], reading[2], reading[3]));',
-      'let next = spelling::four(reading[0], reading[1], reading[2], reading[3]);\n        so_far = match so_far.last {\n'
-      '            Some(last) if begun => Chain { total: octets::further(so_far.total, last, next), last: Some(next) },\n'
-      '            _ => so_far.followed_by(next),\n        };\n        begun = true;'))
+           'lib', 'Some(last) => carried(chain.total, last, bytes)', 'Some(_) => carried(chain.total, reading_of(&bytes[..Chain::READING]), bytes)'))
 
 # ---- The short event limit
 

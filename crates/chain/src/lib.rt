@@ -2,8 +2,9 @@
 // next.
 #![tactic(auto)]
 
-ghost use Rattle.std.specs.Prelude.{◌≡◌, [], ◌∷◌};
-ghost use Rattle.chain.specs.Chain.{readings_in, none, onward};
+ghost use Rattle.std.specs.Prelude.{◌≡◌, [], ◌∷◌, length};
+ghost use Rattle.attributes.specs.Octets.{total_on};
+ghost use Rattle.chain.specs.Chain.{reading_length, readings_in, none, onward};
 
 use attributes::octets;
 
@@ -27,30 +28,45 @@ impl Chain {
             last: None,
         }
     }
+}
 
-    // One reading behind those before it.
-    #[tactic(auto, unfolding(crate::specs::Chain::onward))]
-    fn followed_by(self, reading: u32) -> Self
-        ensures { result ≡ onward self (reading ∷ []) }
-    {
-        let total = match self.last {
-            Some(last) => octets::further(self.total, last, reading),
-            None => octets::total_of(&[reading]),
-        };
-        Self {
-            total,
-            last: Some(reading),
-        }
+// The reading that four bytes spell.
+fn reading_of(bytes: &[u8]) -> u32
+    requires { length bytes.now ≡ reading_length }
+    ensures { result ∷ [] ≡ readings_in bytes.now }
+{
+    spelling::four(bytes[0], bytes[1], bytes[2], bytes[3])
+}
+
+// A sum whose last reading is known, carried on by the readings in some bytes. From turn to turn it is a number: by an Option in each turn, which one that does not
+// fit stays in, the program totals takes twice the instructions for a reading.
+fn carried(total: Option<u64>, last: u32, bytes: &[u8]) -> Option<u64>
+    ensures { result ≡ total_on total last (readings_in bytes.now) }
+{
+    let mut sum = total?;
+    let mut before = last;
+    for piece in bytes.chunks_exact(Chain::READING) {
+        let reading = reading_of(piece);
+        sum = octets::further(Some(sum), before, reading)?;
+        before = reading;
     }
+    Some(sum)
 }
 
 // The readings in a stretch of input, behind those of the stretches before it. 1 to 3 bytes behind the last whole reading are left out.
 pub fn take_readings(chain: Chain, bytes: &[u8]) -> Chain
     ensures { result ≡ onward chain (readings_in bytes.now) }
 {
-    let mut so_far = chain;
-    for reading in bytes.chunks_exact(Chain::READING) {
-        so_far = so_far.followed_by(spelling::four(reading[0], reading[1], reading[2], reading[3]));
+    let Some(end) = bytes.chunks_exact(Chain::READING).next_back() else {
+        return chain;
+    };
+    let total = match chain.last {
+        Some(last) => carried(chain.total, last, bytes),
+        // the first reading is no difference from itself
+        None => carried(Some(0), reading_of(&bytes[..Chain::READING]), bytes),
+    };
+    Chain {
+        total,
+        last: Some(reading_of(end)),
     }
-    so_far
 }
