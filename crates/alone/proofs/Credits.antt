@@ -258,14 +258,11 @@ module _ (past : List Deed) (p : Point) (b : Burst) (source : List ℕ) (seen : 
   unfolding collision_by
   collision_seen = ap if seen.transmit
 
-  -- there is such a port exactly if one is heard
-  single_there : framed (burst_seen (repeater_at p) b).effect.single (class_of (limit_at p) b) ≡ (one h && eqb (class_of (limit_at p) b) readable_frames)
+  -- there is such a port exactly if one is heard, and its frame counts in whatever class a frame counts: of readable frames the second test is true
+  single_there : (k : ℕ) → framed (burst_seen (repeater_at p) b).effect.single k ≡ (one h && eqb k readable_frames)
   unfolding heard_by heard_at
-  single_there = go (burst_seen (repeater_at p) b).effect.single seen.single (one h) refl
+  single_there k = go (burst_seen (repeater_at p) b).effect.single seen.single (one h) refl
     where
-      k : ℕ
-      k = class_of (limit_at p) b
-
       none : (q : ℕ) (t : Bool) → ltb q 9 ≡ t → ((i : ℕ) → i < 16 → is_at (Some q) i ≡ (one h && has h i)) → one h ≡ false → t ≡ false
       none q true k s e =
           let l = ltb-true q 9 k in
@@ -298,7 +295,7 @@ module _ (past : List Deed) (p : Point) (b : Burst) (source : List ℕ) (seen : 
           → framed (cond t None (burst_seen (repeater_at p) b).effect.single) k ≡ ((one h && not (crash b h)) && eqb k readable_frames)
       go true e = away (one h) (eqb k readable_frames) ∙ ap (λ (t : Bool). (one h && not t) && eqb k readable_frames) (sym e ∙ seen.collision)
       go false e =
-          single_there ∙ ap (λ (t : Bool). t && eqb k readable_frames) (sym (and-true (one h)))
+          single_there k ∙ ap (λ (t : Bool). t && eqb k readable_frames) (sym (and-true (one h)))
           ∙ ap (λ (t : Bool). (one h && not t) && eqb k readable_frames) (sym e ∙ seen.collision)
 
   module _ (start : Start) (addresses : (i : ℕ) → i < 9 → address_at i p ≡ address_by start.addresses past i)

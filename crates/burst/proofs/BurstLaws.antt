@@ -27,6 +27,10 @@ module _ (activity : Activity) where
   pub active_mask : activity.mask < 65536 → activity.collision_signal ≡ false → activity.mask ≡ set_of (in_e activity)
   active_mask l s = is_gather 16 activity.mask (in_e activity) l (λ i h. sym (rw s (or-false (has activity.mask i))))
 
+-- the bus brings nothing: it can bring nothing else
+pub no_other : (bus : Bus) → bus ≡ Bus.Nothing
+no_other Bus.Nothing = refl
+
 -- the ports that collide
 module _ (activity : Activity) (hearing : Hearing) where
   pub collided_signal : (k : ℕ) → activity.collision_signal ≡ true → k ≡ set_of (λ i. eqb i aui)
