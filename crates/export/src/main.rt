@@ -106,7 +106,9 @@ fn tell_refused(rt: &impl Eprint, n: u64) {
     };
 }
 
-// Runs from a chip at power-up, and prints what is asked for.
+// Runs from a chip at power-up, and prints what is asked for. It is a function of its own in the built program too, so that its buffer takes no stack while a start file is
+// refused.
+#[inline(never)]
 fn run_from(rt: &HostRuntime, chip: FlatChip, asked: Range<usize>)
     requires { asked.end ≤ counter_count }
 {
@@ -136,6 +138,16 @@ fn asked_by(word: &[u8]) -> Option<Range<usize>>
     Some(first..first + 1)
 }
 
+// What the first argument asks for. It is a function of its own in the built program too, so that its buffer is given back before a start file is read.
+#[inline(never)]
+fn asked(rt: &impl Env) -> Option<Range<usize>>
+    ensures { IfSome result (λ asked. asked.end ≤ counter_count) }
+{
+    let mut word = [0u8; 4096];
+    let n = rt.arg(1, &mut word).unwrap_or(0);
+    asked_by(&word[..n])
+}
+
 fn main(rt: HostRuntime) {
     if !is_given(rt.arg(1, &mut [])) || is_given(rt.arg(3, &mut [])) {
         let _ = eprintln!(rt;
@@ -143,9 +155,7 @@ fn main(rt: HostRuntime) {
         );
         return;
     }
-    let mut word = [0u8; 4096];
-    let n = rt.arg(1, &mut word).unwrap_or(0);
-    let Some(asked) = asked_by(&word[..n]) else {
+    let Some(asked) = asked(&rt) else {
         let _ = eprintln!(rt;
             "export: an attribute is the number of its register, 0 to 12, or all"
         );

@@ -33,7 +33,9 @@ fn fill(input: &mut impl Read, buf: &mut [u8], have: usize) -> usize
 }
 
 // The last piece, where there is one that is not whole: it is a record too.
-fn finish(output: &mut impl Write, number: u64, piece: &[u8], out: &mut [u8; BUFFER]) {
+fn finish(output: &mut impl Write, number: u64, piece: &[u8], out: &mut [u8; BUFFER])
+    requires { length piece.now < record_length }
+{
     if piece.is_empty() {
         return;
     }

@@ -88,7 +88,8 @@ fn pump(
     }
 }
 
-// Runs from a chip at power-up.
+// Runs from a chip at power-up. It is a function of its own in the built program too, so that its buffers take no stack while a start file is refused.
+#[inline(never)]
 fn run_from(rt: &HostRuntime, chip: FlatChip) {
     let mut input = rt.stdin();
     let mut output = rt.stdout();
