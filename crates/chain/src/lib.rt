@@ -38,8 +38,8 @@ fn reading_of(bytes: &[u8]) -> u32
     spelling::four(bytes[0], bytes[1], bytes[2], bytes[3])
 }
 
-// A sum whose last reading is known, carried on by the readings in some bytes. From turn to turn it is a number: by an Option in each turn, which one that does not
-// fit stays in, the program totals takes twice the instructions for a reading.
+// A sum whose last reading is known, carried on by the readings in some bytes. From turn to turn it is a number: by an Option in each turn, which has to stay none once
+// it was, the program totals takes 14.5 instructions for a reading, and 9.0 so.
 fn carried(total: Option<u64>, last: u32, bytes: &[u8]) -> Option<u64>
     ensures { result ≡ total_on total last (readings_in bytes.now) }
 {

@@ -11,12 +11,28 @@
 ghost use Rattle.std.specs.Prelude.{◌≡◌, length};
 
 use attributes::octets;
+use attributes::octets::TooManyFrames;
 use console::read_full;
+use std::fmt;
 
 // The bytes of a pair.
 const PAIR: usize = 16;
 
-// The line of a pair. Text that cannot be written is lost.
+// What the octet check answers, as it is printed.
+#[derive(Clone, Copy)]
+struct Answer(Result<bool, TooManyFrames>);
+
+impl fmt::Display for Answer {
+    fn fmt<W: fmt::Write>(&self, f: &mut fmt::Formatter<W>) -> fmt::Result {
+        match self.0 {
+            Ok(true) => write!(f, "yes"),
+            Ok(false) => write!(f, "no"),
+            Err(turned_away) => write!(f, "{turned_away}"),
+        }
+    }
+}
+
+// The line of a pair, by one call for all answers: each has a buffer on the stack. Text that cannot be written is lost.
 fn line(rt: &impl Print, pair: &[u8])
     requires { length pair.now ≡ 16 }
 {
@@ -26,11 +42,8 @@ fn line(rt: &impl Print, pair: &[u8])
     let octets_after = spelling::four(pair[12], pair[13], pair[14], pair[15]);
     let frames = octets::difference(frames_after, frames_before);
     let moved = octets::difference(octets_after, octets_before);
-    let _ = match octets::octet_check(frames, moved) {
-        Ok(true) => println!(rt; "{frames} {moved} yes"),
-        Ok(false) => println!(rt; "{frames} {moved} no"),
-        Err(turned_away) => println!(rt; "{frames} {moved} {turned_away}"),
-    };
+    let answer = Answer(octets::octet_check(frames, moved));
+    let _ = println!(rt; "{frames} {moved} {answer}");
 }
 
 fn main(rt: HostRuntime) {

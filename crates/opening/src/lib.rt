@@ -81,6 +81,17 @@ fn chip_at(rt: &impl Files, name: &[u8]) -> Result<FlatChip, Refusal>
     chip_in(&bytes[..n])
 }
 
+// The chip that the start file describes which argument i names. It is a function of its own in the built programs too, so that its buffers are given back before a
+// refusal is told.
+#[inline(never)]
+fn chip_named(rt: &(impl Env + Files), i: usize) -> Result<FlatChip, Refusal>
+    ensures { IfOk result Begins }
+{
+    let mut path = [0u8; 4096];
+    let n = rt.arg(i, &mut path).unwrap_or(0);
+    chip_at(rt, &path[..n])
+}
+
 // The words of an error, without the number that the system has for it.
 fn reason(words: &str) -> &str
     ensures { CutBefore number_mark words.now result.now }
@@ -121,9 +132,7 @@ pub fn chip(rt: &(impl Env + Files + Eprint + Alloc), program: &str, i: usize) -
     if !is_given(rt.arg(i, &mut [])) {
         return Some(start::start_chip(&[]).chip);
     }
-    let mut path = [0u8; 4096];
-    let n = rt.arg(i, &mut path).unwrap_or(0);
-    match chip_at(rt, &path[..n]) {
+    match chip_named(rt, i) {
         Ok(chip) => Some(chip),
         Err(refusal) => {
             tell(rt, program, refusal);
